@@ -1,0 +1,129 @@
+-- What refine answers on two sheets and a proposal, exactly. Assumes nothing.
+use mathlib.Core.Path.{_≡_, refl, sym, ap, _∙_, subst}
+use mathlib.Core.Bool.{Bool, true, false, not}
+use mathlib.Core.List.{List, map}
+use mathlib.Core.Logic.{_↔_}
+use Prim.Native.Nat.{ℕ, suc, _+_, _*_, _≤_, _<_}
+use native.Mathlib.Omega.{arith}
+use lib.ListN.{length}
+use lib.Dec.{ltb, leb}
+use borrow.Author.Tests.{ltb-true, ltb-false, leb-true, leb-false, lt-ltb, le-ltb, le-leb, lt-leb}
+use Rattle.meaning.specs.Basic.{if_then_else_, upFrom, leastFrom}
+use Rattle.meaning.specs.Numbers.{OUT, NO-ROOM, no-file, OUTPUTS}
+use Rattle.meaning.specs.Sheet.{Sheet}
+use Rattle.meaning.specs.Joint.{total, T, rounds, outputFault}
+use Rattle.meaning.specs.Room.{startCount, stepCount}
+use Rattle.meaning.specs.Answer.{Answer, equivalent, undecided, refusal, Outcome, silent, refuse, outputsVerdict, stepCounts, firstAbove, greatest, refineVerdict}
+use Rattle.laws.proofs.Basic.{case-bool}
+use Rattle.promises.specs.Correspondence.{PairedAt, PairedOutputs}
+use Rattle.promises.specs.Calls.{LeastFailing, Greatest, Rounds, Worked, RefineSays, too-small, no-start-room, no-step-room, unpaired, all-hold}
+use Rattle.promises.proofs.Tests.{paired-iff}
+use Rattle.promises.proofs.Least.{leastBad, bad-fails, none-fails, fails-bad, all-none}
+use Rattle.promises.proofs.Counts.{above-least, fits-iff, greatest-is, greatest-only}
+use Rattle.promises.proofs.Equations.{length-T}
+use Rattle.promises.proofs.Rounds.{rounds-lt, rounds-fixed, rounds-least}
+use Rattle.promises.proofs.Checks.{unpaired-verdict, paired-verdict}
+
+module _ (A B : Sheet) (p : List ℕ) (pos : 0 < total A B) where
+  -- ## The rounds are the least i with T_i = T_(i+1), and no other number is
+
+  pub rounds-is : Rounds A B p (rounds A B p)
+  rounds-is = record { settled = rounds-fixed A B p pos; least = rounds-least A B p }
+
+  pub rounds-only : (r : ℕ) → Rounds A B p r → rounds A B p ≡ r
+  rounds-only r s = case-bool (ltb (rounds A B p) r)
+      (λ t. absurd (s .least (rounds A B p) (ltb-true _ _ t) (rounds-fixed A B p pos)))
+      (λ t. case-bool (ltb r (rounds A B p))
+      (λ u. absurd (rounds-least A B p r (ltb-true _ _ u) (s .settled)))
+      (λ u. omega (arith, ltb-false (rounds A B p) r t, ltb-false r (rounds A B p) u)))
+
+  -- ## Room
+
+  counts : ℕ → ℕ
+  counts i = stepCount A B (T A B p i)
+
+  overAt : ℕ → ℕ
+  overAt N = firstAbove N 0 (stepCounts A B p)
+
+  over-least : (N : ℕ) → overAt N ≡ leastFrom 0 (suc (rounds A B p)) (λ i. not (leb (counts i) N))
+  unfolding overAt stepCounts counts
+  over-least N = above-least N counts 0 (suc (rounds A B p))
+
+  over-fails : (N : ℕ) → overAt N ≤ rounds A B p → LeastFailing (suc (rounds A B p)) (λ i. counts i ≤ N) (overAt N)
+  unfolding leastBad
+  over-fails N l =
+      let n = suc (rounds A B p) in
+      let at = over-least N in
+      rw at (bad-fails n (λ i. leb (counts i) N) (λ i. counts i ≤ N) (λ i _. fits-iff N counts i) (omega arith))
+
+  none-over : (N : ℕ) → rounds A B p < overAt N → (i : ℕ) → i ≤ rounds A B p → counts i ≤ N
+  unfolding leastBad
+  none-over N l i m =
+      let n = suc (rounds A B p) in
+      let at = over-least N in
+      none-fails n (λ i. leb (counts i) N) (λ i. counts i ≤ N) (λ i _. fits-iff N counts i) (omega arith) i (omega arith)
+
+  most : Greatest (startCount A B) counts (rounds A B p) (greatest (startCount A B) (stepCounts A B p))
+  unfolding counts stepCounts
+  most = greatest-is counts (startCount A B) (rounds A B p)
+
+  worked : (N : ℕ) → startCount A B ≤ N → rounds A B p < overAt N
+      → Worked A B p N (rounds A B p) (greatest (startCount A B) (stepCounts A B p))
+  unfolding counts
+  worked N room l = record { rounds = rounds-is; start-room = room; step-room = none-over N l; greatest = most }
+
+  -- ## The answer
+
+  pub refine-says : (N space : ℕ) → RefineSays N space A B p ((refineVerdict N space A B p) .answer)
+  unfolding refineVerdict refuse silent outputsVerdict outputFault leastBad PairedOutputs counts overAt
+  refine-says N space =
+      let r = rounds A B p in
+      let g = T A B p r in
+      case-bool (ltb space (2 * total A B + 1)) (λ t. too-small (ltb-true _ _ t) (rw t))
+      λ t. case-bool (ltb N (startCount A B)) (λ u. no-start-room (ltb-false _ _ t) (ltb-true _ _ u) (rw (t, u)))
+      λ u. case-bool (leb (overAt N) r)
+      (λ w. no-step-room (ltb-false _ _ t) (ltb-false _ _ u) r rounds-is (overAt N) (over-fails N (leb-true _ _ w)) (rw (t, u, w)))
+      λ w. let done = worked N (ltb-false _ _ u) (leb-false _ _ w) in
+      case-bool (ltb (outputFault A B g) (length (A .outputs)))
+      (λ y. unpaired (ltb-false _ _ t) r _ done (outputFault A B g) (bad-fails (length (A .outputs)) _ _ (λ i l. paired-iff A B g i) (ltb-true _ _ y)) (rw (t, u, w, y)))
+      λ y. all-hold (ltb-false _ _ t) r _ done (none-fails (length (A .outputs)) _ _ (λ i l. paired-iff A B g i) (ltb-false _ _ y)) (rw (t, u, w, y))
+
+  over-at : (N i : ℕ) → LeastFailing (suc (rounds A B p)) (λ i. counts i ≤ N) i → overAt N ≡ i
+  unfolding leastBad
+  over-at N i f =
+      over-least N ∙ fails-bad (suc (rounds A B p)) (λ i. leb (counts i) N) (λ i. counts i ≤ N) (λ i _. fits-iff N counts i) i f
+
+  over-none : (N : ℕ) → ((i : ℕ) → i ≤ rounds A B p → counts i ≤ N) → overAt N ≡ suc (rounds A B p)
+  unfolding leastBad
+  over-none N h =
+      over-least N
+      ∙ all-none (suc (rounds A B p)) (λ i. leb (counts i) N) (λ i. counts i ≤ N) (λ i _. fits-iff N counts i) (λ i l. h i (omega arith))
+
+  -- where all lists have room, the answer is about the outputs
+  settled : (N space nodes : ℕ) → 2 * total A B + 1 ≤ space → Worked A B p N (rounds A B p) nodes
+      → (refineVerdict N space A B p) .answer ≡ outputsVerdict A B (T A B p (rounds A B p)) (rounds A B p) nodes
+  unfolding refineVerdict counts overAt
+  settled N space nodes s w =
+      let past = over-none N (w .step-room) in
+      rw (le-ltb _ _ s, le-ltb _ _ (w .start-room), past, lt-leb (suc (rounds A B p)) (rounds A B p) (omega arith))
+      (ap (outputsVerdict A B (T A B p (rounds A B p)) (rounds A B p))
+      (greatest-only counts (startCount A B) (rounds A B p) (greatest (startCount A B) (stepCounts A B p)) nodes most (w .greatest)))
+
+  pub refine-only : (N space : ℕ) (x : Answer) → RefineSays N space A B p x → (refineVerdict N space A B p) .answer ≡ x
+  unfolding refineVerdict refuse silent counts overAt
+  refine-only N space x (too-small l e) = rw (lt-ltb _ _ l) (sym e)
+  refine-only N space x (no-start-room s l e) = rw (le-ltb _ _ s, lt-ltb _ _ l) (sym e)
+  refine-only N space x (no-step-room s l r rs i f e) =
+      let f′ = subst (λ (r : ℕ). LeastFailing (suc r) (λ i. stepCount A B (T A B p i) ≤ N) i) (sym (rounds-only r rs)) f in
+      let near : i ≤ rounds A B p = omega (arith, f′ .below) in
+      rw (le-ltb _ _ s, le-ltb _ _ l, over-at N i f′, le-leb i (rounds A B p) near) (sym e)
+  refine-only N space x (unpaired s r nodes w i f e) =
+      let same = sym (rounds-only r (w .rounds)) in
+      let w′ = subst (λ (r : ℕ). Worked A B p N r nodes) same w in
+      let f′ = subst (λ (r : ℕ). LeastFailing (length (A .outputs)) (PairedAt A B (T A B p r)) i) same f in
+      settled N space nodes s w′ ∙ unpaired-verdict A B _ (length-T A B p _) i _ nodes f′ ∙ ap (λ (r : ℕ). undecided OUTPUTS i r nodes) (sym same) ∙ sym e
+  refine-only N space x (all-hold s r nodes w pairs e) =
+      let same = sym (rounds-only r (w .rounds)) in
+      let w′ = subst (λ (r : ℕ). Worked A B p N r nodes) same w in
+      let pairs′ = subst (λ (r : ℕ). PairedOutputs A B (T A B p r)) same pairs in
+      settled N space nodes s w′ ∙ paired-verdict A B _ (length-T A B p _) _ nodes pairs′ ∙ ap (λ (r : ℕ). equivalent r nodes) (sym same) ∙ sym e

@@ -1,0 +1,4 @@
+pub mod Correspondence
+pub mod Proper
+pub mod Reading
+pub mod Calls

@@ -1,0 +1,1 @@
+// What the yard may rely on, as theorems about `meaning`: proofs/Promises.antt restates them all, and this crate has no code.

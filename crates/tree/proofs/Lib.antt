@@ -1,0 +1,13 @@
+pub mod Cases
+pub mod Glue
+pub mod Combine
+pub mod Function
+pub mod Values
+pub mod Members
+pub mod Different
+pub mod Fixings
+pub mod Shrink
+pub mod Equal
+pub mod Count
+pub mod NodeCount
+pub mod Columns
