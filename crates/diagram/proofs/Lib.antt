@@ -1,0 +1,13 @@
+pub mod Stores
+pub mod Trees
+pub mod Chain
+pub mod Added
+pub mod Grown
+pub mod Making
+pub mod Noting
+pub mod Branching
+pub mod Early
+pub mod Combining
+pub mod Empty
+pub mod Counting
+pub mod Functions

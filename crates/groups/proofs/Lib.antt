@@ -1,0 +1,5 @@
+pub mod Least
+pub mod Same
+pub mod Differs
+pub mod Numbering
+pub mod Telling

@@ -1,0 +1,9 @@
+pub mod Elements
+pub mod Values
+pub mod Places
+pub mod Sides
+pub mod Recipes
+pub mod Products
+pub mod Lists
+pub mod Trees
+pub mod Tests

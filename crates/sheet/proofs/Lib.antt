@@ -1,0 +1,12 @@
+pub mod Places
+pub mod Right
+pub mod Whole
+pub mod Tests
+pub mod Judged
+pub mod Grows
+pub mod Added
+pub mod Dangling
+pub mod Ending
+pub mod Turns
+pub mod Same
+pub mod Unique
