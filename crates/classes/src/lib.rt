@@ -75,6 +75,7 @@ fn class_at(file: &[u8], i: usize) -> u16
     file[2 * i + 1] as u16
 }
 
+// The class numbers of a good file, in order.
 fn store(file: &[u8], classes: &mut [u16])
     requires { ⌜ 2 * length (now classes) < length (now file) ⌝ }
     ensures { λ _. ⌜ now (classes .exit) ≡ classesIn (now (file .entry)) (length (now (classes .entry))) ⌝ }

@@ -10,7 +10,7 @@ use lib.Dec.{ltb, leb}
 use borrow.Author.Tests.{ltb-true, ltb-false, leb-true, leb-false, lt-ltb, le-ltb, le-leb, lt-leb}
 use Rattle.meaning.specs.Basic.{if_then_else_, upFrom, leastFrom}
 use Rattle.meaning.specs.Numbers.{OUT, NO-ROOM, no-file, OUTPUTS}
-use Rattle.meaning.specs.Sheet.{Sheet}
+use Rattle.meaning.specs.Sheet.{Sheet, classBytes}
 use Rattle.meaning.specs.Joint.{total, T, rounds, outputFault}
 use Rattle.meaning.specs.Room.{startCount, stepCount}
 use Rattle.meaning.specs.Answer.{Answer, equivalent, undecided, refusal, Outcome, silent, refuse, outputsVerdict, stepCounts, firstAbove, greatest, refineVerdict}
@@ -23,6 +23,9 @@ use Rattle.promises.proofs.Counts.{above-least, fits-iff, greatest-is, 
 use Rattle.promises.proofs.Equations.{length-T}
 use Rattle.promises.proofs.Rounds.{rounds-lt, rounds-fixed, rounds-least}
 use Rattle.promises.proofs.Checks.{unpaired-verdict, paired-verdict}
+
+abbrev answerIn : Outcome → Answer
+answerIn o = o .answer
 
 module _ (A B : Sheet) (p : List ℕ) (pos : 0 < total A B) where
   -- ## The rounds are the least i with T_i = T_(i+1), and no other number is
@@ -99,31 +102,51 @@ module _ (A B : Sheet) (p : List ℕ) (pos : 0 < total A B) where
       over-least N
       ∙ all-none (suc (rounds A B p)) (λ i. leb (counts i) N) (λ i. counts i ≤ N) (λ i _. fits-iff N counts i) (λ i l. h i (omega arith))
 
-  -- where all lists have room, the answer is about the outputs
-  settled : (N space nodes : ℕ) → 2 * total A B + 1 ≤ space → Worked A B p N (rounds A B p) nodes
-      → (refineVerdict N space A B p) .answer ≡ outputsVerdict A B (T A B p (rounds A B p)) (rounds A B p) nodes
+  -- ## What refine comes to, stage by stage
+
+  pub out-of-space : (N space : ℕ) → space < 2 * total A B + 1 → refineVerdict N space A B p ≡ refuse OUT no-file (2 * total A B + 1)
+  unfolding refineVerdict
+  out-of-space N space l = rw (lt-ltb _ _ l)
+
+  pub out-at-start : (N space : ℕ) → 2 * total A B + 1 ≤ space → N < startCount A B → refineVerdict N space A B p ≡ refuse NO-ROOM no-file 0
+  unfolding refineVerdict
+  out-at-start N space s l = rw (le-ltb _ _ s, lt-ltb _ _ l)
+
+  pub out-at-step : (N space i : ℕ) → 2 * total A B + 1 ≤ space → startCount A B ≤ N
+      → LeastFailing (suc (rounds A B p)) (λ i. stepCount A B (T A B p i) ≤ N) i → refineVerdict N space A B p ≡ refuse NO-ROOM no-file (suc i)
   unfolding refineVerdict counts overAt
-  settled N space nodes s w =
+  out-at-step N space i s l f =
+      let near : i ≤ rounds A B p = omega (arith, f .below) in
+      rw (le-ltb _ _ s, le-ltb _ _ l, over-at N i f, le-leb i (rounds A B p) near)
+
+  -- where all lists have room, T_r is written and the verdict is on the outputs
+  settles : (N space nodes : ℕ) → 2 * total A B + 1 ≤ space → Worked A B p N (rounds A B p) nodes
+      → refineVerdict N space A B p ≡ record {
+        answer = outputsVerdict A B (T A B p (rounds A B p)) (rounds A B p) nodes;
+        written = classBytes (T A B p (rounds A B p));
+      }
+  unfolding refineVerdict counts overAt
+  settles N space nodes s w =
       let past = over-none N (w .step-room) in
       rw (le-ltb _ _ s, le-ltb _ _ (w .start-room), past, lt-leb (suc (rounds A B p)) (rounds A B p) (omega arith))
-      (ap (outputsVerdict A B (T A B p (rounds A B p)) (rounds A B p))
+      (ap (λ (m : ℕ). record { answer = outputsVerdict A B (T A B p (rounds A B p)) (rounds A B p) m; written = classBytes (T A B p (rounds A B p)) })
       (greatest-only counts (startCount A B) (rounds A B p) (greatest (startCount A B) (stepCounts A B p)) nodes most (w .greatest)))
 
+  pub settled-after : (N space r nodes : ℕ) → 2 * total A B + 1 ≤ space → Worked A B p N r nodes
+      → refineVerdict N space A B p ≡ record { answer = outputsVerdict A B (T A B p r) r nodes; written = classBytes (T A B p r) }
+  settled-after N space r nodes s w =
+      subst (λ (r : ℕ). Worked A B p N r nodes
+      → refineVerdict N space A B p ≡ record { answer = outputsVerdict A B (T A B p r) r nodes; written = classBytes (T A B p r) })
+      (rounds-only r (w .rounds)) (settles N space nodes s) w
+
   pub refine-only : (N space : ℕ) (x : Answer) → RefineSays N space A B p x → (refineVerdict N space A B p) .answer ≡ x
-  unfolding refineVerdict refuse silent counts overAt
-  refine-only N space x (too-small l e) = rw (lt-ltb _ _ l) (sym e)
-  refine-only N space x (no-start-room s l e) = rw (le-ltb _ _ s, lt-ltb _ _ l) (sym e)
+  unfolding refuse silent
+  refine-only N space x (too-small l e) = ap answerIn (out-of-space N space l) ∙ sym e
+  refine-only N space x (no-start-room s l e) = ap answerIn (out-at-start N space s l) ∙ sym e
   refine-only N space x (no-step-room s l r rs i f e) =
-      let f′ = subst (λ (r : ℕ). LeastFailing (suc r) (λ i. stepCount A B (T A B p i) ≤ N) i) (sym (rounds-only r rs)) f in
-      let near : i ≤ rounds A B p = omega (arith, f′ .below) in
-      rw (le-ltb _ _ s, le-ltb _ _ l, over-at N i f′, le-leb i (rounds A B p) near) (sym e)
+      ap answerIn (out-at-step N space i s l (subst (λ (r : ℕ). LeastFailing (suc r) (λ i. stepCount A B (T A B p i) ≤ N) i) (sym (rounds-only r rs)) f))
+      ∙ sym e
   refine-only N space x (unpaired s r nodes w i f e) =
-      let same = sym (rounds-only r (w .rounds)) in
-      let w′ = subst (λ (r : ℕ). Worked A B p N r nodes) same w in
-      let f′ = subst (λ (r : ℕ). LeastFailing (length (A .outputs)) (PairedAt A B (T A B p r)) i) same f in
-      settled N space nodes s w′ ∙ unpaired-verdict A B _ (length-T A B p _) i _ nodes f′ ∙ ap (λ (r : ℕ). undecided OUTPUTS i r nodes) (sym same) ∙ sym e
+      ap answerIn (settled-after N space r nodes s w) ∙ unpaired-verdict A B _ (length-T A B p r) i r nodes f ∙ sym e
   refine-only N space x (all-hold s r nodes w pairs e) =
-      let same = sym (rounds-only r (w .rounds)) in
-      let w′ = subst (λ (r : ℕ). Worked A B p N r nodes) same w in
-      let pairs′ = subst (λ (r : ℕ). PairedOutputs A B (T A B p r)) same pairs in
-      settled N space nodes s w′ ∙ paired-verdict A B _ (length-T A B p _) _ nodes pairs′ ∙ ap (λ (r : ℕ). equivalent r nodes) (sym same) ∙ sym e
+      ap answerIn (settled-after N space r nodes s w) ∙ paired-verdict A B _ (length-T A B p r) r nodes pairs ∙ sym e

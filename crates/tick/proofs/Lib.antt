@@ -1,0 +1,9 @@
+pub mod Padded
+pub mod Bits
+pub mod Valuing
+pub mod Holding
+pub mod Showing
+pub mod Vectors
+pub mod Running
+pub mod Outcome
+pub mod Unique

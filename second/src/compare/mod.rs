@@ -1,0 +1,5 @@
+//! Comparing the second checker with another one, call by call.
+
+pub mod call;
+pub mod coverage;
+pub mod judge;
