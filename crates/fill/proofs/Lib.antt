@@ -1,0 +1,10 @@
+pub mod Parts
+pub mod Gains
+pub mod MapTrees
+pub mod Filled
+pub mod Mapped
+pub mod Each
+pub mod Named
+pub mod Products
+pub mod Equals
+pub mod Equalled
