@@ -11,7 +11,7 @@ use Rattle.meaning.specs.Joint.{first}
 use Rattle.promises.proofs.Tests.{first-is}
 use Rattle.tree.specs.Tree.{Tree, leaf, Sub, whole, combineTree}
 use Rattle.tree.specs.Function.{treeFor}
-use Rattle.tree.proofs.Cases.{case-bool}
+use Rattle.laws.proofs.Basic.{case-bool}
 use Rattle.fill.specs.Work.{PartOf, in-first, in-rest, Named}
 use Rattle.fill.specs.Trees.{equalTree, withProduct, memberTrees, memberTree, productTree, equalTrees}
 use Rattle.fill.proofs.Parts.{part-one, part-left, part-right, part-split}

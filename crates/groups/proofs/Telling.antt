@@ -62,11 +62,12 @@ module _ (A B : Sheet) where
   unfolding T
   start-split p ids long = split-is p ids (total A B) long (StartEqual A B) (startSame A B p) (start-iff A B p)
 
+  pub step-next : (g ids : List ℕ) → length g ≡ total A B → Tells g ids (StepEqual A B g) → splitBy g ids ≡ grouping (total A B) (stepSame A B g)
+  step-next g ids long = split-is g ids (total A B) long (StepEqual A B g) (stepSame A B g) (step-iff A B g long)
+
   pub step-split : (p ids : List ℕ) (i : ℕ) → Tells (T A B p i) ids (StepEqual A B (T A B p i)) → splitBy (T A B p i) ids ≡ T A B p (suc i)
   unfolding T
-  step-split p ids i =
-      let g : List ℕ = T A B p i in
-      split-is g ids (total A B) (length-T A B p i) (StepEqual A B g) (stepSame A B g) (step-iff A B g (length-T A B p i))
+  step-split p ids i = step-next (T A B p i) ids (length-T A B p i)
 
   -- every class number of T_i is below n
   pub T-below : (p : List ℕ) (i v : ℕ) → v < total A B → getD (T A B p i) v 0 < total A B

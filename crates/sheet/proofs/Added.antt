@@ -10,16 +10,17 @@ use Rattle.meaning.specs.Sheet as paper
 use Rattle.sheet.specs.declared.Signal.{Signal}
 use Rattle.sheet.specs.declared.Output.{Output}
 use Rattle.sheet.specs.declared.Sheet.{Sheet}
-use Rattle.sheet.specs.declared.read.Part.{Part}
+use Rattle.sheet.specs.declared.reader.Part.{Part}
 use Rattle.sheet.specs.Stored.{sheetOf, signalAt, outputAt}
-use Rattle.sheet.specs.Reading.{partOf, Fits, countOf, withSignal, withOutput, maxNames, emptyPart, withSheet, withName, nameOf, namesOf, Among, Part·Kept, partIs, Added}
+use Rattle.sheet.specs.Record.{partOf, Fits}
+use Rattle.sheet.specs.Part.{countOf, withSignal, withOutput, maxNames, emptyPart, withSheet, withName, nameOf, namesOf, Among, KeptPart, partIs, Added}
 use Rattle.sheet.proofs.Places.{places-none, places-more}
 use Rattle.sheet.proofs.Whole.{empty-kept}
 use Rattle.sheet.proofs.Grows.{each-more, used-snoc, signals-snoc, signal-kept, outputs-snoc, output-kept}
 
 -- ## Nothing has been read
 
-pub part-empty : Part·Kept emptyPart
+pub part-empty : KeptPart emptyPart
 part-empty = record {
   sheet = empty-kept;
   naming = places-none {m = maxNames};
@@ -34,7 +35,7 @@ nothing-yet = refl
 
 -- ## Names
 
-module _ (p : Part) (s : Sheet) (at signal : ℕ) (w : Part·Kept p) (h : p .names < maxNames) where
+module _ (p : Part) (s : Sheet) (at signal : ℕ) (w : KeptPart p) (h : p .names < maxNames) where
   pub names-snoc : namesOf (withName p s at signal) ≡ namesOf p ++ ((at, signal) ∷ [])
   unfolding namesOf nameOf
   names-snoc = used-snoc nameOf (p .naming) (p .names) (record { at = at; signal = signal }) (w .naming) h
@@ -58,7 +59,7 @@ module _ (p : Part) (s : Sheet) (at signal : ℕ) (w : Part·Kept p) (h : p .nam
 
 -- ## The three ways in which a record is added
 
-module _ (p : Part) (at k a b : ℕ) (w : Part·Kept p) (f : Fits (p .sheet) k a b) where
+module _ {p : Part} {k a b : ℕ} (w : KeptPart p) (f : Fits (p .sheet) k a b) where
   abbrev s : Sheet
   s = p .sheet
 
@@ -69,24 +70,24 @@ module _ (p : Part) (at k a b : ℕ) (w : Part·Kept p) (f : Fits (p .sheet) k a
     pub output-names : p .names < maxNames
     output-names = omega (arith, w .names, w .sheet .few-registers, few-outputs)
 
-    abbrev with-output : Part
-    with-output = withName p (withOutput s a b) at b
+    abbrev with-output : ℕ → Part
+    with-output at = withName p (withOutput s a b) at b
 
-    output-is : partIs with-output ≡ paper.add (partIs p) at k a b
+    output-is : (at : ℕ) → partIs (with-output at) ≡ paper.add (partIs p) at k a b
     unfolding partIs partOf paper.add sheetOf
-    output-is =
+    output-is at =
         rw (eq-eqb k OUTPUT o, names-snoc p (withOutput s a b) at b w output-names, outputs-snoc s a b (w .sheet) few-outputs)
 
-    pub added-output : Added p at k a b with-output
-    added-output = record {
-      is = output-is;
+    pub added-output : (at : ℕ) → Added p at k a b (with-output at)
+    added-output at = record {
+      is = output-is at;
       kept = record {
         sheet = output-kept s a b (w .sheet) few-outputs;
         naming = places-more (p .naming) (p .names) (record { at = at; signal = b }) (w .naming) output-names;
         names = omega (arith, w .names);
         sources = λ i h e. among-old p (withOutput s a b) at b w output-names (signalAt s i .b) (w .sources i h e);
         shown =
-            each-more (λ (i : ℕ) (x : Output). Among with-output (x .signal)) (s .output) (s .outputs) (record { pin = a; signal = b })
+            each-more (λ (i : ℕ) (x : Output). Among (with-output at) (x .signal)) (s .output) (s .outputs) (record { pin = a; signal = b })
             (w .sheet .outputs) few-outputs
             (λ i h. among-old p (withOutput s a b) at b w output-names (outputAt s i .signal) (w .shown i h))
             (among-new p (withOutput s a b) at b w output-names);
@@ -105,14 +106,14 @@ module _ (p : Part) (at k a b : ℕ) (w : Part·Kept p) (f : Fits (p .sheet) k a
       abbrev with-gate : Part
       with-gate = withSheet p (withSignal s k a b)
 
-      gate-is : partIs with-gate ≡ paper.add (partIs p) at k a b
+      gate-is : (at : ℕ) → partIs with-gate ≡ paper.add (partIs p) at k a b
       unfolding partIs partOf namesOf paper.add sheetOf
-      gate-is = rw (ne-eqb k OUTPUT o, ne-eqb k REGISTER r, signals-snoc s k a b (w .sheet) f o)
+      gate-is at = rw (ne-eqb k OUTPUT o, ne-eqb k REGISTER r, signals-snoc s k a b (w .sheet) f o)
 
-      pub added-gate : Added p at k a b with-gate
+      pub added-gate : (at : ℕ) → Added p at k a b with-gate
       unfolding countOf
-      added-gate = record {
-        is = gate-is;
+      added-gate at = record {
+        is = gate-is at;
         kept = record {
           sheet = signal-kept s k a b (w .sheet) f o;
           naming = w .naming;
@@ -130,24 +131,24 @@ module _ (p : Part) (at k a b : ℕ) (w : Part·Kept p) (f : Fits (p .sheet) k a
       pub register-names : p .names < maxNames
       register-names = omega (arith, w .names, w .sheet .outputs .within, f .register r)
 
-      abbrev with-register : Part
-      with-register = withName p (withSignal s k a b) at b
+      abbrev with-register : ℕ → Part
+      with-register at = withName p (withSignal s k a b) at b
 
-      register-is : partIs with-register ≡ paper.add (partIs p) at k a b
+      register-is : (at : ℕ) → partIs (with-register at) ≡ paper.add (partIs p) at k a b
       unfolding partIs partOf paper.add sheetOf
-      register-is =
+      register-is at =
           rw (ne-eqb k OUTPUT o, eq-eqb k REGISTER r, names-snoc p (withSignal s k a b) at b w register-names, signals-snoc s k a b (w .sheet) f o)
 
-      pub added-register : Added p at k a b with-register
+      pub added-register : (at : ℕ) → Added p at k a b (with-register at)
       unfolding countOf
-      added-register = record {
-        is = register-is;
+      added-register at = record {
+        is = register-is at;
         kept = record {
           sheet = signal-kept s k a b (w .sheet) f o;
           naming = places-more (p .naming) (p .names) (record { at = at; signal = b }) (w .naming) register-names;
           names = rw (eq-eqb k REGISTER r) (omega (arith, w .names));
           sources =
-              each-more (λ (i : ℕ) (y : Signal). y .kind ≡ REGISTER → Among with-register (y .b)) (s .signal) (s .signals) x
+              each-more (λ (i : ℕ) (y : Signal). y .kind ≡ REGISTER → Among (with-register at) (y .b)) (s .signal) (s .signals) x
               (w .sheet .signals) few-signals
               (λ i h e. among-old p (withSignal s k a b) at b w register-names (signalAt s i .b) (w .sources i h e))
               (λ e. among-new p (withSignal s k a b) at b w register-names);

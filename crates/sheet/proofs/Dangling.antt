@@ -12,8 +12,9 @@ use Rattle.meaning.specs.Sheet as paper
 use Rattle.answer.specs.Meant.{refusalOf}
 use Rattle.answer.specs.declared.Refusal.the-variants.{Dangling}
 use Rattle.sheet.specs.declared.Reading.the-variants.{Good, Refused}
-use Rattle.sheet.specs.declared.read.Part.{Part}
-use Rattle.sheet.specs.Reading.{noName, nameOf, namesOf, nameAt, Part·Kept, readOf, Named}
+use Rattle.sheet.specs.declared.reader.Part.{Part}
+use Rattle.sheet.specs.Reading.{readOf}
+use Rattle.sheet.specs.Part.{noName, nameOf, namesOf, nameAt, KeptPart, Named}
 use Rattle.sheet.proofs.Places.{length-used}
 use Rattle.sheet.proofs.Whole.{used-at}
 
@@ -23,7 +24,7 @@ pub record Walk (p : Part) (i : ℕ) : Type 0 where
   pub below : (j : ℕ) → j < i → nameAt p j .signal < p .sheet .signals
   pub same : (s : paper.Sheet) → paper.named (p .sheet .signals) (drop i (namesOf p)) s ≡ paper.named (p .sheet .signals) (namesOf p) s
 
-module _ (p : Part) (w : Part·Kept p) where
+module _ {p : Part} (w : KeptPart p) where
   length-names : length (namesOf p) ≡ p .names
   unfolding namesOf
   length-names = length-map (take (p .names) (p .naming)) nameOf ∙ length-used (p .naming) (p .names) (w .naming)
@@ -37,7 +38,7 @@ module _ (p : Part) (w : Part·Kept p) where
   pub walk-start : Walk p 0
   walk-start = record { within = omega arith; below = λ j h. absurd (omega arith); same = λ s. refl }
 
-  module _ (i : ℕ) (v : Walk p i) where
+  module _ {i : ℕ} (v : Walk p i) where
     pub walk-more : i < p .names → nameAt p i .signal < p .sheet .signals → Walk p (i + 1)
     unfolding paper.named
     walk-more h l = record {

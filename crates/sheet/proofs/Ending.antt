@@ -11,12 +11,14 @@ use Rattle.answer.specs.Meant.{refusalOf}
 use Rattle.answer.specs.declared.Refusal.the-variants.{After, NoOutput}
 use Rattle.sheet.specs.declared.Reading.{Reading}
 use Rattle.sheet.specs.declared.Reading.the-variants.{Refused}
-use Rattle.sheet.specs.declared.read.Part.{Part}
+use Rattle.sheet.specs.declared.reader.Part.{Part}
 use Rattle.sheet.specs.Stored.{sheetOf}
-use Rattle.sheet.specs.Reading.{partOf, Part·Kept, partIs, readOf, Named, Ended}
+use Rattle.sheet.specs.Reading.{readOf}
+use Rattle.sheet.specs.Record.{partOf}
+use Rattle.sheet.specs.Part.{KeptPart, partIs, Named, Ended}
 use Rattle.sheet.proofs.Whole.{length-signals, length-outputs}
 
-module _ (p : Part) (w : Part·Kept p) (at size : ℕ) (h : at < size) where
+module _ {p : Part} (w : KeptPart p) (at size : ℕ) where
   after-is : at + 1 < size → (rest : List ℕ) → at + 1 + length rest ≡ size
       → readOf (Refused After (at + 1)) (sheetOf (p .sheet)) ≡ paper.ending (partIs p) at rest
   unfolding paper.ending readOf refusalOf
@@ -42,7 +44,7 @@ module _ (p : Part) (w : Part·Kept p) (at size : ℕ) (h : at < size) where
       whole = λ e. let z : _≡_ {A = ℕ} 0 1 = cc in absurd (omega arith);
     }
 
-    module _ (o : p .sheet .outputs ≡ 0 → ⊥) (d : Reading) (n : Named p d) where
+    module _ (o : p .sheet .outputs ≡ 0 → ⊥) {d : Reading} (n : Named p d) where
       named-is : (rest : List ℕ) → at + 1 + length rest ≡ size → readOf d (sheetOf (p .sheet)) ≡ paper.ending (partIs p) at rest
       unfolding paper.ending partIs partOf
       named-is (x ∷ rest) e = absurd (omega arith)

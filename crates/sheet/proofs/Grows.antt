@@ -15,7 +15,8 @@ use Rattle.laws.proofs.Basic.{case-bool}
 use Rattle.sheet.specs.declared.Signal.{Signal}
 use Rattle.sheet.specs.declared.Sheet.{Sheet}
 use Rattle.sheet.specs.Stored.{signalOf, outputOf, sheetOf, Places, Right, Kept}
-use Rattle.sheet.specs.Reading.{countOf, withSignal, withOutput, Fits}
+use Rattle.sheet.specs.Record.{Fits}
+use Rattle.sheet.specs.Part.{countOf, withSignal, withOutput}
 use Rattle.sheet.proofs.Places.{places-more, used-more}
 use Rattle.sheet.proofs.Right.{by-kind, signal-input, signal-register, signal-inverter, signal-and, signal-or, signal-xor}
 

@@ -9,4 +9,8 @@ pub mod Dangling
 pub mod Ending
 pub mod Turns
 pub mod Same
-pub mod Unique
+pub mod Files
+pub mod Bytes
+pub mod Sizes
+pub mod Puts
+pub mod Called

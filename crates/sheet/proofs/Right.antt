@@ -66,7 +66,7 @@ recordOf (paper.inverter a) = record { kind = NOT; a = a; b = 0 }
 recordOf (paper.gate g a b) = record { kind = paper.gateKind g; a = a; b = b }
 
 -- an initial value is its own bit
-bit-own : (n : ℕ) → n ≤ 1 → (if eqb n 1 then 1 else 0) ≡ n
+pub bit-own : (n : ℕ) → n ≤ 1 → (if eqb n 1 then 1 else 0) ≡ n
 bit-own zero h = refl
 bit-own (suc zero) h = refl
 bit-own (suc (suc n)) h = absurd (omega arith)

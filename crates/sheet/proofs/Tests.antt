@@ -11,7 +11,7 @@ use Rattle.meaning.specs.Sheet as paper
 use Rattle.laws.proofs.Basic.{case-bool, true-false}
 use Rattle.sheet.specs.declared.Sheet.{Sheet}
 use Rattle.sheet.specs.Stored.{Right, Kept}
-use Rattle.sheet.specs.Reading.{partOf, secondOf, lateOf, Fits}
+use Rattle.sheet.specs.Record.{partOf, secondOf, lateOf, Fits}
 use Rattle.sheet.proofs.Whole.{length-signals, length-outputs}
 
 -- the tests of MANY, over the counts that are stored
@@ -33,7 +33,7 @@ or-false false = refl
 
 -- ## MANY, in the order of the code
 
-module _ (s : Sheet) (k : ℕ) (w : Kept s) where
+module _ {s : Sheet} {k : ℕ} (w : Kept s) where
   pub many-output : k ≡ OUTPUT → leb maxOutputs (s .outputs) ≡ paper.tooMany (partOf s []) k
   many-output e = rw e (many-is s OUTPUT w)
 
@@ -116,7 +116,7 @@ module _ (s : Sheet) (k a b : ℕ) (w : Kept s)
   most o = omega (arith, upto)
 
   few-signals : (k ≡ OUTPUT → ⊥) → s .signals < maxSignals
-  few-signals o = unless (paper.tooMany (partOf s []) k) few (many-signal s k w (most o))
+  few-signals o = unless (paper.tooMany (partOf s []) k) few (many-signal w (most o))
 
   initial-bit : k ≡ REGISTER → a ≤ 1
   initial-bit e = ltb-false 1 a (simp e at value)
@@ -137,9 +137,9 @@ module _ (s : Sheet) (k a b : ℕ) (w : Kept s)
 
   pub sound-fits : Fits s k a (secondOf k b)
   sound-fits = record {
-    output = λ e. leb-false maxOutputs (s .outputs) (many-output s k w e ∙ few);
+    output = λ e. leb-false maxOutputs (s .outputs) (many-output w e ∙ few);
     signal = few-signals;
     right = is-right;
-    input = λ e. leb-false maxInputs (s .inputs) (many-input s k w (few-signals (λ o. omega arith)) e ∙ few);
-    register = λ e. leb-false maxRegisters (s .registers) (many-register s k w (few-signals (λ o. omega arith)) e ∙ few);
+    input = λ e. leb-false maxInputs (s .inputs) (many-input w (few-signals (λ o. omega arith)) e ∙ few);
+    register = λ e. leb-false maxRegisters (s .registers) (many-register w (few-signals (λ o. omega arith)) e ∙ few);
   }

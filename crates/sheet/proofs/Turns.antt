@@ -18,9 +18,11 @@ use Rattle.sheet.specs.declared.Reading.{Reading}
 use Rattle.sheet.specs.declared.Reading.the-variants.{Good, Refused}
 use Rattle.sheet.specs.declared.record.Record.{Record}
 use Rattle.sheet.specs.declared.record.Record.the-variants.{Sound, Faulty}
-use Rattle.sheet.specs.declared.read.Part.{Part}
+use Rattle.sheet.specs.declared.reader.Part.{Part}
 use Rattle.sheet.specs.Stored.{sheetOf}
-use Rattle.sheet.specs.Reading.{secondOf, faultIs, Fits, Said, Judged, namesOf, emptyPart, Part·Kept, partIs, Added, readOf, faultReading, refusedFound, Ended, Beside, Reads}
+use Rattle.sheet.specs.Reading.{readOf, Beside, Reads}
+use Rattle.sheet.specs.Record.{secondOf, faultIs, Fits, Said, Judged}
+use Rattle.sheet.specs.Part.{namesOf, emptyPart, KeptPart, partIs, Added, faultReading, refusedFound, Ended}
 use Rattle.sheet.proofs.Right.{by-kind}
 use Rattle.sheet.proofs.Added.{part-empty, nothing-yet}
 
@@ -76,7 +78,7 @@ add-second s p at k a b c f =
 -- ## Turns
 
 pub record Turn (file : List ℕ) (p : Part) (at : ℕ) : Type 0 where
-  pub kept : Part·Kept p
+  pub kept : KeptPart p
   pub within : at ≤ length file
   pub same : paper.readFrom (drop at file) 0 at (partIs p) ≡ paper.readSheet file
 
@@ -98,23 +100,28 @@ unfolding paper.readFrom refusalOf
 turn-short file p at t h =
     refused-reads file Short at (sym (ap (λ (l : List ℕ). paper.readFrom l 0 at (partIs p)) (drop-of-length-le file h)) ∙ t .same)
 
-module _ (file : List ℕ) (p : Part) (at : ℕ) (t : Turn file p at) (h : at < length file)
-    (r : Record) (j : Judged (drop at file) (p .sheet) r) where
+-- the record at the present offset
+pub record Ahead (file : List ℕ) (p : Part) (at : ℕ) (r : Record) : Type 0 where
+  pub turn : Turn file p at
+  pub inside : at < length file
+  pub judged : Judged (drop at file) (p .sheet) r
+
+module _ {file : List ℕ} {p : Part} {at : ℕ} {r : Record} (h : Ahead file p at r) where
   some : 0 < length (drop at file)
-  some = omega (arith, length-drop at file)
+  some = omega (arith, length-drop at file, h .inside)
 
   judged : faultIs r ≡ paper.faultOf (partIs p) (getD (drop at file) 0 0) (drop 1 (drop at file))
   unfolding partIs
-  judged = j .fault (namesOf p)
+  judged = h .judged .fault (namesOf p)
 
-  pub turn-refused : (f : Refusal) → r ≡ Faulty f → Reads file (refusedFound (faultReading r at))
+  pub turn-refused : {f : Refusal} → r ≡ Faulty f → Reads file (refusedFound (faultReading r at))
   unfolding faultIs faultReading
-  turn-refused f e =
-      rw e (refused-reads file f at (sym (read-fault at (partIs p) (drop at file) some (rw e at judged)) ∙ t .same))
+  turn-refused {f} e =
+      rw e (refused-reads file f at (sym (read-fault at (partIs p) (drop at file) some (rw e at judged)) ∙ h .turn .same))
 
-  module _ (k a b : ℕ) (e : r ≡ Sound k a b) where
+  module _ {k a b : ℕ} (e : r ≡ Sound k a b) where
     said : Said (drop at file) (p .sheet) k a b
-    said = j .said k a b e
+    said = h .judged .said k a b e
 
     sound : paper.sound ≡ paper.faultOf (partIs p) (getD (drop at file) 0 0) (drop 1 (drop at file))
     unfolding faultIs
@@ -122,20 +129,20 @@ module _ (file : List ℕ) (p : Part) (at : ℕ) (t : Turn file p at) (h : at < 
 
     -- ## END
 
-    module _ (q : k ≡ END) (d : Reading) (n : Ended p at (length file) d) where
+    module _ (q : k ≡ END) {d : Reading} (n : Ended p at (length file) d) where
       ended-is : readOf d (sheetOf (p .sheet)) ≡ paper.readSheet file
       ended-is =
           n .is (drop 1 (drop at file)) (omega (arith, length-drop 1 (drop at file), length-drop at file))
           ∙ sym (read-end at (partIs p) (drop at file) some sound (sym (said .kind) ∙ q))
-          ∙ t .same
+          ∙ h .turn .same
 
       pub turn-good : d ≡ Good → Reads file (record { sheet = p .sheet; reading = d })
       unfolding Beside
       turn-good g = record { is = ended-is; sheet = rw g (n .whole g) }
 
-      pub turn-ended : (f : Refusal) (i : ℕ) → d ≡ Refused f i → Reads file (refusedFound d)
+      pub turn-ended : {f : Refusal} {i : ℕ} → d ≡ Refused f i → Reads file (refusedFound d)
       unfolding readOf
-      turn-ended f i g = rw g (refused-reads file f i (rw g at ended-is))
+      turn-ended {f} {i} g = rw g (refused-reads file f i (rw g at ended-is))
 
     -- ## A record that is added
 
@@ -156,10 +163,10 @@ module _ (file : List ℕ) (p : Part) (at : ℕ) (t : Turn file p at) (h : at < 
           let whole : paper.bodyOf (getD (drop at file) 0 0) < length (drop at file) = rw (said .kind) at (said .whole) in
           let step = read-more at (partIs p) (drop at file) some sound (λ q. n (said .kind ∙ q)) whole in
           let place : at + suc (paper.bodyOf k) ≡ at + 1 + paper.bodyOf k = omega arith in
-          sym (rw (← said .kind, ← said .first, added-is, drop-drop, place) at step) ∙ t .same
+          sym (rw (← said .kind, ← said .first, added-is, drop-drop, place) at step) ∙ h .turn .same
 
-      pub turn-more : (q : Part) (m : ℕ) → Added p at k a b q → m ≡ paper.bodyOf k → Turn file q (at + 1 + m)
-      turn-more q m w e = record {
+      pub turn-more : {q : Part} {m : ℕ} → Added p at k a b q → m ≡ paper.bodyOf k → Turn file q (at + 1 + m)
+      turn-more w e = record {
         kept = w .kept;
         within = omega (arith, turn-inside);
         same = rw (e, w .is) next-is;

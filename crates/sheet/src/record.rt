@@ -8,17 +8,18 @@ ghost use lib.Dec.{eqb, ltb};
 ghost use Rattle.meaning.specs.Numbers.{REGISTER};
 ghost use Rattle.meaning.specs.Sheet.{unknownKind, bodyOf, tooMany};
 ghost use Rattle.sheet.specs.Stored.{Kept};
-ghost use Rattle.sheet.specs.Reading.{partOf, secondOf, lateOf, Judged};
+ghost use Rattle.sheet.specs.Record.{partOf, secondOf, lateOf, Judged};
 use crate::Sheet;
 use crate::kind;
 use answer::Refusal;
 
 // Sound: the kind and the body; its second byte is 0 where the body has one.
-pub enum Record {
+pub(crate) enum Record {
     Sound(u8, u8, u8),
     Faulty(Refusal),
 }
 
+// KIND: no record of a sheet has this kind.
 fn unknown(kind: u8) -> bool
     ensures { λ r. ⌜ r ≡ unknownKind kind ⌝ }
 {
@@ -29,7 +30,7 @@ fn unknown(kind: u8) -> bool
 }
 
 // The length of a record's body.
-pub fn body(kind: u8) -> usize
+pub(crate) fn body(kind: u8) -> usize
     ensures { λ r. ⌜ r ≡ bodyOf kind ⌝ }
 {
     if kind == kind::END {
@@ -44,12 +45,14 @@ pub fn body(kind: u8) -> usize
     2
 }
 
+// Byte i of the rest of a file, 0 past its end.
 fn byte(rest: &[u8], i: usize) -> u8
     ensures { λ r. ⌜ r ≡ getD (now (rest .entry)) i 0 ⌝ }
 {
     if i < rest.len() { rest[i] } else { 0 }
 }
 
+// The second byte of a body, 0 where the body has one.
 fn second(kind: u8, b: u8) -> u8
     ensures { λ r. ⌜ r ≡ secondOf kind b ⌝ }
 {
@@ -80,7 +83,7 @@ fn too_many(s: Sheet, kind: u8) -> bool
 }
 
 // VALUE: an initial value that is not 0 or 1.
-fn no_value(kind: u8, a: u8) -> bool
+fn bad_value(kind: u8, a: u8) -> bool
     ensures { λ r. ⌜ r ≡ (eqb kind REGISTER && ltb 1 a) ⌝ }
 {
     if kind == kind::REGISTER {
@@ -109,11 +112,13 @@ fn not_lower(n: usize, kind: u8, a: u8, b: u8) -> bool
 }
 
 // The record at the front of the rest of a file, over the sheet so far: KIND, SHORT, MANY, VALUE, LATER.
-pub fn one_record(rest: &[u8], s: Sheet) -> Record
+pub(crate) fn one_record(rest: &[u8], s: Sheet) -> Record
     requires { ⌜ Kept s × (0 < length (now rest)) ⌝ }
     ensures { λ r. ⌜ Judged (now (rest .entry)) s r ⌝ }
 {
     let kind = byte(rest, 0);
+    let a = byte(rest, 1);
+    let b = byte(rest, 2);
     if unknown(kind) {
         return Record::Faulty(Refusal::Kind);
     }
@@ -123,9 +128,7 @@ pub fn one_record(rest: &[u8], s: Sheet) -> Record
     if too_many(s, kind) {
         return Record::Faulty(Refusal::Many);
     }
-    let a = byte(rest, 1);
-    let b = byte(rest, 2);
-    if no_value(kind, a) {
+    if bad_value(kind, a) {
         return Record::Faulty(Refusal::Value);
     }
     if not_lower(s.signals, kind, a, b) {

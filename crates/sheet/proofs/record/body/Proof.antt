@@ -3,8 +3,6 @@ use borrow.Author.Tests.{eq-eqb, ne-eqb}
 use Rattle.meaning.specs.Sheet.{bodyOf}
 use Rattle.sheet.proofs.record.body.Statement.{statement}
 use Rattle.sheet.proofs.record.body.Tie as tie
-use Rattle.sheet.proofs.record.body.Reads as reads
-use Rattle.sheet.proofs.record.body.Lts as lts
 
 returns : tie.Need-returns
 unfolding bodyOf

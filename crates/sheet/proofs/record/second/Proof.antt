@@ -1,7 +1,7 @@
 -- The second byte, where the body has one. Assumes nothing.
 use mathlib.Core.Path.{sym, _∙_}
 use borrow.Author.Tests.{eq-eqb, ne-eqb}
-use Rattle.sheet.specs.Reading.{secondOf}
+use Rattle.sheet.specs.Record.{secondOf}
 use borrow.Author.Needs.{needs}
 use Rattle.sheet.proofs.record.second.Statement.{statement}
 use Rattle.sheet.proofs.record.second.Tie as tie

@@ -3,8 +3,6 @@ use borrow.Author.Tests.{lt-ltb, le-ltb}
 use Rattle.meaning.specs.Sheet.{unknownKind}
 use Rattle.sheet.proofs.record.unknown.Statement.{statement}
 use Rattle.sheet.proofs.record.unknown.Tie as tie
-use Rattle.sheet.proofs.record.unknown.Reads as reads
-use Rattle.sheet.proofs.record.unknown.Lts as lts
 
 returns : tie.Need-returns
 unfolding unknownKind

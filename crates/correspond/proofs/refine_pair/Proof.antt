@@ -1,0 +1,168 @@
+-- Stage by stage. Assumes nothing.
+use mathlib.Core.Path.{sym, _∙_}
+use native.Mathlib.Omega.{arith}
+use borrow.Author.Needs.{needs}
+use Rattle.correspond.proofs.Pairing.{few-signals}
+use Rattle.correspond.proofs.Refining.{refine-no-start, start-long, begun, begun-long, settled-long, over-few, refine-over, refine-after}
+use Rattle.correspond.proofs.refine_pair.Statement.{statement}
+use Rattle.correspond.proofs.refine_pair.Tie as tie
+
+new-requires : tie.Need-new-requires
+new-requires c κs = search needs
+
+start-list-requires : tie.Need-start-list-requires
+start-list-requires c κs = search needs
+
+enum-known-start : tie.Need-enum-known-start
+enum-known-start c = search needs
+
+enum-told : tie.Need-enum-told
+enum-told c = search needs
+
+no-room-requires : tie.Need-no-room-requires
+no-room-requires c κs = search needs
+
+same-length : tie.Need-same-length
+same-length c = search needs
+
+same-length-2 : tie.Need-same-length-2
+same-length-2 c = search needs
+
+returns : tie.Need-returns
+returns c =
+    let list = c .before .before .before .before .before .before .before in
+    let start = list .before .before .before .before .before .before .before .before .before in
+    rw (c .no-room .ensures) (refine-no-start _ _ (start .pre .0) _ _ _ _ _ _ _ (list .start-list .ensures) (c .before .enum-told .given .1) (start .pre .1))
+
+split-requires : tie.Need-split-requires
+split-requires c κs =
+    let known = c .before .before .before in
+    let list = known .before .before .before .before .before .before in
+    let start = list .before .before .before .before .before .before .before .before .before in
+    let ok = start .pre .0 in
+    (start-long _ _ ok _ _ _ _ _ _ (list .start-list .ensures) (known .start .given .1) ∙ sym (ok .size), start .pre .1 ∙ sym (ok .size), few-signals _ _ ok)
+
+settle-requires : tie.Need-settle-requires
+settle-requires c κs =
+    let cut = c .before .before .before .before .before .before in
+    let known = cut .before .before .before .before in
+    let list = known .before .before .before .before .before .before in
+    let new = list .before .before in
+    let start = new .before .before .before .before .before .before .before in
+    let ok = start .pre .0 in
+    let first = begun _ _ ok _ _ _ _ _ _ _ (list .start-list .ensures) (known .start .given .1) (new .new .ensures .1) (cut .split .ensures) in (
+      record { alike = ok .alike; some = ok .some; outputs = ok .outputs; size = begun-long _ _ ok _ _ _ _ first },
+      start-long _ _ ok _ _ _ _ _ _ (list .start-list .ensures) (known .start .given .1),
+      start .pre .3,
+    )
+
+enum-known-ended : tie.Need-enum-known-ended
+enum-known-ended c = search needs
+
+add-no-room : tie.Need-add-no-room
+add-no-room c =
+    let settled = c .before .before .before .before .before .before .before .before .before .before .before in
+    let cut = settled .before .before .before .before .before .before .before in
+    let known = cut .before .before .before .before in
+    let list = known .before .before .before .before .before .before in
+    let new = list .before .before in
+    let start = new .before .before .before .before .before .before .before in
+    let ok = start .pre .0 in
+    let first = begun _ _ ok _ _ _ _ _ _ _ (list .start-list .ensures) (known .start .given .1) (new .new .ensures .1) (cut .split .ensures) in
+    omega (arith, over-few _ _ ok _ _ _ _ first _ _ _ (settled .settle .ensures) _ (c .before .ended .given .1))
+
+no-room-requires-2 : tie.Need-no-room-requires-2
+no-room-requires-2 c κs = search needs
+
+enum-known-ended-2 : tie.Need-enum-known-ended-2
+enum-known-ended-2 c = search needs
+
+outputs-requires : tie.Need-outputs-requires
+outputs-requires c κs =
+    let settled = c .before .before .before .before .before .before .before .before .before .before .before .before in
+    let cut = settled .before .before .before .before .before .before .before in
+    let known = cut .before .before .before .before in
+    let list = known .before .before .before .before .before .before in
+    let new = list .before .before in
+    let start = new .before .before .before .before .before .before .before in
+    let ok = start .pre .0 in
+    let first = begun _ _ ok _ _ _ _ _ _ _ (list .start-list .ensures) (known .start .given .1) (new .new .ensures .1) (cut .split .ensures) in
+    record { alike = ok .alike; some = ok .some; outputs = ok .outputs; size = settled-long _ _ ok _ _ _ _ first _ _ _ (settled .settle .ensures) }
+
+same-length-3 : tie.Need-same-length-3
+same-length-3 c = search needs
+
+same-length-4 : tie.Need-same-length-4
+same-length-4 c = search needs
+
+same-length-5 : tie.Need-same-length-5
+same-length-5 c = search needs
+
+same-length-6 : tie.Need-same-length-6
+same-length-6 c = search needs
+
+returns-2 : tie.Need-returns-2
+returns-2 c =
+    let settled = c .before .before .before .before .before .before .before .before .before .before .before .before in
+    let cut = settled .before .before .before .before .before .before .before in
+    let known = cut .before .before .before .before in
+    let list = known .before .before .before .before .before .before in
+    let new = list .before .before in
+    let start = new .before .before .before .before .before .before .before in
+    let ok = start .pre .0 in
+    let first = begun _ _ ok _ _ _ _ _ _ _ (list .start-list .ensures) (known .start .given .1) (new .new .ensures .1) (cut .split .ensures) in
+    rw (c .no-room2 .ensures) (refine-over _ _ ok _ _ _ _ first _ _ _ (settled .settle .ensures) _ (c .before .before .ended .given .1))
+
+same-length-7 : tie.Need-same-length-7
+same-length-7 c = search needs
+
+same-length-8 : tie.Need-same-length-8
+same-length-8 c = search needs
+
+same-length-9 : tie.Need-same-length-9
+same-length-9 c = search needs
+
+same-length-10 : tie.Need-same-length-10
+same-length-10 c = search needs
+
+returns-3 : tie.Need-returns-3
+returns-3 c =
+    let settled = c .before .before .before .before .before .before .before .before .before .before .before .before .before in
+    let cut = settled .before .before .before .before .before .before .before in
+    let known = cut .before .before .before .before in
+    let list = known .before .before .before .before .before .before in
+    let new = list .before .before in
+    let start = new .before .before .before .before .before .before .before in
+    let ok = start .pre .0 in
+    let first = begun _ _ ok _ _ _ _ _ _ _ (list .start-list .ensures) (known .start .given .1) (new .new .ensures .1) (cut .split .ensures) in
+    refine-after _ _ ok _ _ _ _ first _ _ _ (settled .settle .ensures) _ _ (c .before .before .before .ended2 .given .1) _ (c .outputs .ensures)
+
+pub refine-pair-spec : {M : Type 1} → statement M
+refine-pair-spec =
+    tie.close
+    (tie.spec
+    new-requires
+    start-list-requires
+    enum-known-start
+    enum-told
+    no-room-requires
+    same-length
+    same-length-2
+    returns
+    split-requires
+    settle-requires
+    enum-known-ended
+    add-no-room
+    no-room-requires-2
+    enum-known-ended-2
+    outputs-requires
+    same-length-3
+    same-length-4
+    same-length-5
+    same-length-6
+    returns-2
+    same-length-7
+    same-length-8
+    same-length-9
+    same-length-10
+    returns-3)
