@@ -1,3 +1,4 @@
 pub mod Records
 pub mod Judging
 pub mod Filling
+pub mod Unique

@@ -26,7 +26,7 @@ use Rattle.sheet.specs.Writing.{Put, Called}
 use Rattle.sheet.proofs.Bytes.{sheet-length}
 use Rattle.sheet.proofs.Puts.{put-append, put-length}
 use Rattle.sheet.proofs.Files.{reads-refused, reads-good}
-use Rattle.sheet.proofs.Same.{answer-same}
+use Rattle.answer.proofs.Same.{answer-same}
 
 -- ## Signals, outputs, END
 

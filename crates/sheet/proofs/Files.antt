@@ -12,7 +12,7 @@ use Rattle.sheet.specs.declared.Reading.the-variants.{Good, Refused}
 use Rattle.sheet.specs.declared.Found.{Found}
 use Rattle.sheet.specs.Stored.{sheetOf, Whole}
 use Rattle.sheet.specs.Reading.{readOf, Beside, Reads}
-use Rattle.sheet.proofs.Same.{refusal-same}
+use Rattle.answer.proofs.Same.{refusal-same}
 use Rattle.sheet.proofs.Whole.{whole-same}
 
 -- ## The two cases

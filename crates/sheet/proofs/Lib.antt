@@ -8,7 +8,6 @@ pub mod Added
 pub mod Dangling
 pub mod Ending
 pub mod Turns
-pub mod Same
 pub mod Files
 pub mod Bytes
 pub mod Sizes

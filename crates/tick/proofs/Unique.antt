@@ -3,7 +3,7 @@ use Prim.Native.Nat.{ℕ}
 use mathlib.Core.Path.{_≡_, sym, _∙_}
 use mathlib.Core.List.{List}
 use Rattle.answer.specs.declared.Answer.{Answer}
-use Rattle.sheet.proofs.Same.{answer-same}
+use Rattle.answer.proofs.Same.{answer-same}
 use Rattle.tick.specs.Tick.{Ran}
 
 module _ (file vectors old : List ℕ) (r r′ : Answer) (new new′ : List ℕ) (one : Ran file vectors old r new) (other : Ran file vectors old r′ new′) where
