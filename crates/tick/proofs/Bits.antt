@@ -13,7 +13,7 @@ use Rattle.meaning.specs.Basic.{if_then_else_, bit, bitsOf, fromBits}
 
 -- ## A vector's
 
-length-bits : (k v : ℕ) → length (bitsOf k v) ≡ k
+pub length-bits : (k v : ℕ) → length (bitsOf k v) ≡ k
 unfolding bitsOf
 length-bits zero v = refl
 length-bits (suc k) v = ap suc (length-bits k (v / 2))

@@ -3,3 +3,5 @@ pub mod Polarity
 pub mod Stages
 pub mod Row
 pub mod Calling
+pub mod Results
+pub mod Demands
