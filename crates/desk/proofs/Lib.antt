@@ -1,0 +1,4 @@
+pub mod Putting
+pub mod Decimal
+pub mod Printed
+pub mod Unique
