@@ -93,6 +93,9 @@ pub struct Verdict {
     pub nodes: u64,
 }
 
+/// How many numbers the longest answer has.
+pub const LONGEST_ANSWER: usize = 5;
+
 /// The answer to one call.
 #[derive(Clone, Copy, PartialEq, Eq, Debug)]
 pub enum Answer {

@@ -1,12 +1,11 @@
 //! The proved library through its C face: the one place with unsafe code.
 //!
-//! Every slice goes over as a pointer and a length in elements. The answer's
-//! numbers come back in a lent row of five; the returned value says how many
-//! of them the answer has.
+//! Every slice goes over as a pointer and a length in elements; an empty one
+//! with a null pointer, which the face allows.
+
+use std::ptr;
 
 use second::compare::call::{Face, Files};
-
-const ROW: usize = 5;
 
 extern "C" {
     fn yellopard_write(
@@ -58,84 +57,56 @@ extern "C" {
     ) -> usize;
 }
 
-pub struct Proved;
-
-/// Lends a row and takes the answer's numbers out of it. A count that no
-/// answer has becomes a row that no answer has.
-fn with_row(call: impl FnOnce(*mut u64, usize) -> usize) -> Vec<u64> {
-    let mut row = [u64::MAX; ROW];
-    let count = call(row.as_mut_ptr(), row.len());
-    match row.get(..count) {
-        Some(numbers) => numbers.to_vec(),
-        None => vec![u64::MAX; ROW + 1],
+/// Where the face may read.
+fn read<T>(slice: &[T]) -> *const T {
+    match slice {
+        [] => ptr::null(),
+        _ => slice.as_ptr(),
     }
 }
 
-// SAFETY, for all four: each pointer and length come from one slice that is
-// borrowed for the whole call, for reading where the face only reads and for
-// writing where it writes, and no two of them overlap.
+/// Where the face may write.
+fn written<T>(slice: &mut [T]) -> *mut T {
+    match slice {
+        [] => ptr::null_mut(),
+        _ => slice.as_mut_ptr(),
+    }
+}
+
+/// Puts a call: the slices that it reads, then those that it writes.
+macro_rules! put {
+    ($call:ident, [$($read:ident),+], [$($written:ident),+]) => {
+        // SAFETY: each pointer and length come from one slice that is borrowed
+        // for the whole call, for writing where the call writes, so that no two
+        // of them overlap there. An empty slice has no element to reach.
+        unsafe { $call($(read($read), $read.len(),)+ $(written($written), $written.len()),+) }
+    };
+}
+
+pub struct Proved;
+
 impl Face for Proved {
-    fn write(&mut self, a: &[u8], result: &mut [u8]) -> Vec<u64> {
-        with_row(|row, row_len| unsafe {
-            yellopard_write(
-                a.as_ptr(),
-                a.len(),
-                result.as_mut_ptr(),
-                result.len(),
-                row,
-                row_len,
-            )
-        })
+    fn write(&mut self, a: &[u8], result: &mut [u8], row: &mut [u64]) -> usize {
+        put!(yellopard_write, [a], [result, row])
     }
 
-    fn run(&mut self, a: &[u8], vectors: &[u8], result: &mut [u16]) -> Vec<u64> {
-        with_row(|row, row_len| unsafe {
-            yellopard_run(
-                a.as_ptr(),
-                a.len(),
-                vectors.as_ptr(),
-                vectors.len(),
-                result.as_mut_ptr(),
-                result.len(),
-                row,
-                row_len,
-            )
-        })
+    fn run(&mut self, a: &[u8], vectors: &[u8], result: &mut [u16], row: &mut [u64]) -> usize {
+        put!(yellopard_run, [a, vectors], [result, row])
     }
 
-    fn check(&mut self, files: &Files, table: &mut [u16]) -> Vec<u64> {
-        with_row(|row, row_len| unsafe {
-            yellopard_check(
-                files.a.as_ptr(),
-                files.a.len(),
-                files.b.as_ptr(),
-                files.b.len(),
-                files.p.as_ptr(),
-                files.p.len(),
-                table.as_mut_ptr(),
-                table.len(),
-                row,
-                row_len,
-            )
-        })
+    fn check(&mut self, files: &Files, table: &mut [u16], row: &mut [u64]) -> usize {
+        let Files { a, b, p } = files;
+        put!(yellopard_check, [a, b, p], [table, row])
     }
 
-    fn refine(&mut self, files: &Files, table: &mut [u16], result: &mut [u8]) -> Vec<u64> {
-        with_row(|row, row_len| unsafe {
-            yellopard_refine(
-                files.a.as_ptr(),
-                files.a.len(),
-                files.b.as_ptr(),
-                files.b.len(),
-                files.p.as_ptr(),
-                files.p.len(),
-                table.as_mut_ptr(),
-                table.len(),
-                result.as_mut_ptr(),
-                result.len(),
-                row,
-                row_len,
-            )
-        })
+    fn refine(
+        &mut self,
+        files: &Files,
+        table: &mut [u16],
+        result: &mut [u8],
+        row: &mut [u64],
+    ) -> usize {
+        let Files { a, b, p } = files;
+        put!(yellopard_refine, [a, b, p], [table, result, row])
     }
 }

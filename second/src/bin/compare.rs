@@ -87,12 +87,12 @@ fn compare(options: &Options, face: impl Face) -> ExitCode {
     let mut number = options.case.unwrap_or(0);
     loop {
         let case = case(options.seed, number);
-        for (place, (call, outcome)) in case.calls.iter().enumerate() {
-            coverage.count(case.theme, call, &outcome.answer);
-            if let Err(complaint) = judge.judge(call, outcome) {
+        for (place, trial) in case.trials.iter().enumerate() {
+            coverage.count(case.theme, trial);
+            if let Err(complaint) = judge.judge(trial) {
                 disagreements += 1;
                 println!("case {number} ({}), call {place}: {complaint}", case.theme);
-                println!("{call}\n  repeat  {}\n", repeat(options, number));
+                println!("{trial}\n  repeat  {}\n", repeat(options, number));
             }
         }
         number += 1;
@@ -120,9 +120,10 @@ fn repeat(options: &Options, case: u64) -> String {
 }
 
 fn verdict(options: &Options, coverage: &Coverage, disagreements: usize) -> ExitCode {
-    let missed = match options.case {
-        Some(_) => Vec::new(),
-        None => coverage.missed(),
+    let is_whole = options.case.is_none() && disagreements < MOST_REPORTS;
+    let missed = match is_whole {
+        true => coverage.missed(),
+        false => Vec::new(),
     };
     for answer in &missed {
         println!("no case reached {answer}");

@@ -1,4 +1,5 @@
-//! One call with everything that is handed over, and whoever may answer it.
+//! One call with the files and lengths handed over, how it is put, and whoever
+//! may answer it.
 
 use std::fmt;
 
@@ -100,21 +101,61 @@ impl fmt::Display for Files {
     }
 }
 
+/// A file that is longer than this is shown only in part.
+const MOST_SHOWN: usize = 2_000;
+
+/// So much is shown of such a file, at its front and at its end.
+const PART_SHOWN: usize = 20;
+
 pub fn hex(bytes: &[u8]) -> String {
-    let byte = |byte: &u8| format!("{byte:02x}");
-    bytes.iter().map(byte).collect::<Vec<_>>().join(" ")
+    let whole = |bytes: &[u8]| {
+        let byte = |byte: &u8| format!("{byte:02x}");
+        bytes.iter().map(byte).collect::<Vec<_>>().join(" ")
+    };
+    if bytes.len() <= MOST_SHOWN {
+        return whole(bytes);
+    }
+    let front = whole(&bytes[..PART_SHOWN]);
+    let end = whole(&bytes[bytes.len() - PART_SHOWN..]);
+    format!("{front} .. {end} ({} bytes)", bytes.len())
 }
 
-/// Whoever answers calls by filling lent buffers. Each call gives the answer's
-/// numbers: five of a verdict, three of a refusal, one length written.
+/// A call as it is put to a face, and what the second checker says of it.
+#[derive(Clone, PartialEq, Eq, Debug)]
+pub struct Trial {
+    pub call: Call,
+    /// The places of the row that is lent for the answer's numbers.
+    pub row: usize,
+    pub outcome: Outcome,
+    /// The node counts of the lists that the call works, as far as they were
+    /// found when its table was chosen.
+    pub counts: Vec<usize>,
+}
+
+impl fmt::Display for Trial {
+    fn fmt(&self, f: &mut fmt::Formatter) -> fmt::Result {
+        writeln!(f, "{}", self.call)?;
+        write!(f, "  row     {} places lent", self.row)
+    }
+}
+
+/// Whoever answers calls by filling lent buffers. The answer's numbers (five of
+/// a verdict, three of a refusal, one length written) go to the front of the
+/// row, as many as it has places for; what is returned is how many there are.
 pub trait Face {
-    fn write(&mut self, a: &[u8], result: &mut [u8]) -> Vec<u64>;
+    fn write(&mut self, a: &[u8], result: &mut [u8], row: &mut [u64]) -> usize;
 
-    fn run(&mut self, a: &[u8], vectors: &[u8], result: &mut [u16]) -> Vec<u64>;
+    fn run(&mut self, a: &[u8], vectors: &[u8], result: &mut [u16], row: &mut [u64]) -> usize;
 
-    fn check(&mut self, files: &Files, table: &mut [u16]) -> Vec<u64>;
+    fn check(&mut self, files: &Files, table: &mut [u16], row: &mut [u64]) -> usize;
 
-    fn refine(&mut self, files: &Files, table: &mut [u16], result: &mut [u8]) -> Vec<u64>;
+    fn refine(
+        &mut self,
+        files: &Files,
+        table: &mut [u16],
+        result: &mut [u8],
+        row: &mut [u64],
+    ) -> usize;
 
     /// Anything else to be said against what the second checker gave.
     fn objection(&mut self, _call: &Call, _outcome: &Outcome) -> Option<String> {

@@ -2,10 +2,10 @@
 
 use std::fmt::Debug;
 
-use crate::calls::{Outcome, Written};
+use crate::calls::Written;
 use crate::room::{capacity, NODE_WORDS};
 
-use super::call::{Call, Face};
+use super::call::{Call, Face, Trial};
 
 /// So much is kept behind each lent buffer, to see that nobody writes there.
 const GUARD: usize = 24;
@@ -26,45 +26,50 @@ impl<F: Face> Judge<F> {
     }
 
     /// Everything that disagrees, in words.
-    pub fn judge(&mut self, call: &Call, outcome: &Outcome) -> Result<(), String> {
-        let mut complaints = Vec::new();
-        let row = self.put(call, outcome, &mut complaints);
+    pub fn judge(&mut self, trial: &Trial) -> Result<(), String> {
+        let Trial { call, outcome, .. } = trial;
         let expected = outcome.answer.row();
-        if row != expected {
-            complaints.push("the answers differ".into());
+        let placed = &expected[..expected.len().min(trial.row)];
+        let mut row = Lent::new("row", trial.row, row_pattern);
+        let mut complaints = Vec::new();
+        let count = self.put(trial, row.slice(), &mut complaints);
+        if count != expected.len() {
+            complaints.push("the answers differ in length".into());
         }
+        complaints.extend(row.complaint(placed));
         complaints.extend(self.face.objection(call, outcome));
         if complaints.is_empty() {
             return Ok(());
         }
+        let answered = &row.slice()[..count.min(trial.row)];
         let complaints = complaints.join("; ");
         Err(format!(
-            "answered {row:?}, expected {expected:?}: {complaints}"
+            "answered {answered:?} of {count} numbers, expected {expected:?}: {complaints}"
         ))
     }
 
-    /// Puts the call, and looks at what was lent for it.
-    fn put(&mut self, call: &Call, outcome: &Outcome, complaints: &mut Vec<String>) -> Vec<u64> {
+    /// Puts the call, and looks at what was lent for it beside the row.
+    fn put(&mut self, trial: &Trial, row: &mut [u64], complaints: &mut Vec<String>) -> usize {
         let face = &mut self.face;
-        let written = &outcome.written;
-        match call {
+        let written = &trial.outcome.written;
+        match &trial.call {
             Call::Write { a, result } => {
-                let mut lent = Lent::new(*result, byte_pattern);
-                let row = face.write(a, lent.slice());
+                let mut lent = Lent::new("result", *result, byte_pattern);
+                let count = face.write(a, lent.slice(), row);
                 complaints.extend(lent.complaint(bytes(written)));
-                row
+                count
             }
             Call::Run { a, vectors, result } => {
-                let mut lent = Lent::new(*result, word_pattern);
-                let row = face.run(a, vectors, lent.slice());
+                let mut lent = Lent::new("result", *result, word_pattern);
+                let count = face.run(a, vectors, lent.slice(), row);
                 complaints.extend(lent.complaint(numbers(written)));
-                row
+                count
             }
             Call::Check { files, words } => {
                 grow_table(&mut self.table, *words);
-                let row = face.check(files, &mut self.table[..*words]);
+                let count = face.check(files, &mut self.table[..*words], row);
                 complaints.extend(table_complaint(&mut self.table, *words));
-                row
+                count
             }
             Call::Refine {
                 files,
@@ -72,26 +77,31 @@ impl<F: Face> Judge<F> {
                 result,
             } => {
                 grow_table(&mut self.table, *words);
-                let mut lent = Lent::new(*result, byte_pattern);
-                let row = face.refine(files, &mut self.table[..*words], lent.slice());
+                let mut lent = Lent::new("result", *result, byte_pattern);
+                let count = face.refine(files, &mut self.table[..*words], lent.slice(), row);
                 complaints.extend(lent.complaint(bytes(written)));
                 complaints.extend(table_complaint(&mut self.table, *words));
-                row
+                count
             }
         }
     }
 }
 
-/// A result buffer that is lent full of a pattern.
+/// A buffer that is lent full of a pattern.
 struct Lent<T> {
+    name: &'static str,
     elements: Vec<T>,
     pattern: fn(usize) -> T,
 }
 
 impl<T: Copy + PartialEq + Debug> Lent<T> {
-    fn new(length: usize, pattern: fn(usize) -> T) -> Lent<T> {
+    fn new(name: &'static str, length: usize, pattern: fn(usize) -> T) -> Lent<T> {
         let elements = (0..length + GUARD).map(pattern).collect();
-        Lent { elements, pattern }
+        Lent {
+            name,
+            elements,
+            pattern,
+        }
     }
 
     fn slice(&mut self) -> &mut [T] {
@@ -107,9 +117,9 @@ impl<T: Copy + PartialEq + Debug> Lent<T> {
         };
         let mut found = self.elements.iter().enumerate();
         let (place, element) = found.find(|(place, element)| **element != wanted(*place))?;
-        let wanted = wanted(place);
+        let (name, wanted) = (self.name, wanted(place));
         Some(format!(
-            "result element {place} is {element:?}, expected {wanted:?}"
+            "{name} element {place} is {element:?}, expected {wanted:?}"
         ))
     }
 }
@@ -158,6 +168,11 @@ fn table_complaint(table: &mut [u16], words: usize) -> Option<String> {
         *word = table_pattern(place);
     }
     complaint
+}
+
+/// Greater than any number of an answer.
+fn row_pattern(place: usize) -> u64 {
+    u64::MAX - place as u64
 }
 
 fn byte_pattern(place: usize) -> u8 {

@@ -1,8 +1,9 @@
 //! Cases: a theme's calls, each with what the second checker says. A case is
 //! made from its seed and number alone, so each can be repeated by itself.
 
+use crate::answer::LONGEST_ANSWER;
 use crate::calls::{Checking, Outcome, Refining};
-use crate::compare::call::{Call, Files};
+use crate::compare::call::{Call, Files, Trial};
 use crate::grouping;
 use crate::room;
 use crate::sheet::{Sheet, MOST_SIGNALS};
@@ -11,25 +12,29 @@ use super::proposals::{self, Proposal, PROPOSALS};
 use super::rng::Rng;
 use super::rooms;
 use super::sheets;
-use super::themes::THEMES;
+use super::themes::{LONG_FILES, THEMES};
 
 pub struct Case {
     pub theme: &'static str,
-    pub calls: Vec<(Call, Outcome)>,
+    pub trials: Vec<Trial>,
 }
 
-/// Case number `case` of a seed.
+/// Case number `case` of a seed. Number 0 is the long files, so that every run
+/// has them once; the themes of all others are drawn.
 pub fn case(seed: u64, case: u64) -> Case {
     let mut rng = Rng::of(seed, case);
-    let (theme, make) = *rng.weighted(&THEMES);
+    let (theme, make) = match case {
+        0 => LONG_FILES,
+        _ => *rng.weighted(&THEMES),
+    };
     let mut maker = Maker {
         rng,
-        calls: Vec::new(),
+        trials: Vec::new(),
     };
     make(&mut maker);
     Case {
         theme,
-        calls: maker.calls,
+        trials: maker.trials,
     }
 }
 
@@ -47,14 +52,32 @@ pub struct Effort {
 /// Makes the calls of one case.
 pub struct Maker {
     pub rng: Rng,
-    calls: Vec<(Call, Outcome)>,
+    trials: Vec<Trial>,
 }
 
 impl Maker {
     /// A call for which the second checker is asked afresh.
     pub fn call(&mut self, call: Call) {
         let outcome = call.outcome();
-        self.calls.push((call, outcome));
+        self.put(call, outcome, &[]);
+    }
+
+    /// A call with its outcome, and the node counts of its lists if known.
+    fn put(&mut self, call: Call, outcome: Outcome, counts: &[usize]) {
+        self.trials.push(Trial {
+            call,
+            row: rooms::row(&mut self.rng),
+            outcome,
+            counts: counts.to_vec(),
+        });
+    }
+
+    /// Gives every number of the answers so far a place in the row: for calls
+    /// that are not made often enough to do without.
+    pub fn lend_full_rows(&mut self) {
+        for trial in &mut self.trials {
+            trial.row = LONGEST_ANSWER;
+        }
     }
 
     /// Checks and refines two sheets from several proposals.
@@ -89,7 +112,7 @@ impl Maker {
                 files: files.clone(),
                 words,
             };
-            self.calls.push((call, checking.outcome(words)));
+            self.put(call, checking.outcome(words), counts);
         }
     }
 
@@ -106,22 +129,37 @@ impl Maker {
                 words,
                 result,
             };
-            self.calls.push((call, refining.outcome(words, result)));
+            self.put(call, refining.outcome(words, result), counts);
         }
     }
 
     /// Three files as they are, in one call, with any table.
     pub fn files(&mut self, files: Files) {
-        let words = self.rng.below(2_000);
-        let call = match self.rng.chance(1, 2) {
-            true => Call::Check { files, words },
-            false => Call::Refine {
-                files,
-                words,
-                result: rooms::result(&mut self.rng, 40),
-            },
-        };
-        self.call(call);
+        match self.rng.chance(1, 2) {
+            true => self.check_any(files),
+            false => self.refine_any(files),
+        }
+    }
+
+    /// Three files as they are, in both calls.
+    pub fn both(&mut self, files: Files) {
+        self.check_any(files.clone());
+        self.refine_any(files);
+    }
+
+    fn check_any(&mut self, files: Files) {
+        let words = rooms::any_table(&mut self.rng);
+        self.call(Call::Check { files, words });
+    }
+
+    fn refine_any(&mut self, files: Files) {
+        let words = rooms::any_table(&mut self.rng);
+        let result = rooms::result(&mut self.rng, 40);
+        self.call(Call::Refine {
+            files,
+            words,
+            result,
+        });
     }
 
     pub fn write(&mut self, a: Vec<u8>) {

@@ -5,6 +5,7 @@ pub mod cases;
 pub mod damage;
 pub mod edit;
 pub mod lanes;
+pub mod long;
 pub mod loose;
 pub mod proposals;
 pub mod rewrite;

@@ -1,6 +1,8 @@
-//! How much is lent: tables at, just above and just below the node counts, and
-//! results at, just above and just below the length needed.
+//! How much is lent: tables at, just above and just below the node counts,
+//! results at, just above and just below the length needed, and rows with and
+//! without a place for every number of an answer.
 
+use crate::answer::LONGEST_ANSWER;
 use crate::room::{MOST_NODES, NODE_WORDS};
 
 use super::rng::Rng;
@@ -34,9 +36,23 @@ pub fn words(rng: &mut Rng, n: usize) -> usize {
     NODE_WORDS * n + more
 }
 
+/// A table for files that are mostly refused.
+pub fn any_table(rng: &mut Rng) -> usize {
+    rng.below(2_000)
+}
+
 /// A table that is longer than any table can be used.
 pub fn longest(rng: &mut Rng) -> usize {
     NODE_WORDS * MOST_NODES + rng.below(3_000)
+}
+
+/// The places of a row: mostly just enough for every answer.
+pub fn row(rng: &mut Rng) -> usize {
+    match rng.below(6) {
+        0 => rng.below(LONGEST_ANSWER),
+        1 => LONGEST_ANSWER + rng.between(1, 4),
+        _ => LONGEST_ANSWER,
+    }
 }
 
 /// A result length: mostly enough.

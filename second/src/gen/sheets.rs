@@ -120,6 +120,13 @@ pub fn any_sheet(rng: &mut Rng, scale: Scale) -> Sheet {
     sheet(rng, size)
 }
 
+/// Random vectors for a sheet with so many inputs, none with a bit beyond them.
+pub fn vectors(rng: &mut Rng, inputs: usize, ticks: usize) -> Vec<u8> {
+    let unused = MOST_INPUTS - inputs;
+    let vector = |_| (u16::from(rng.byte()) >> unused) as u8;
+    (0..ticks).map(vector).collect()
+}
+
 /// A file of the sheet, its outputs strewn among the signals.
 pub fn strewn(rng: &mut Rng, sheet: &Sheet) -> Vec<u8> {
     let mut outputs = sheet.outputs.iter().peekable();

@@ -3,21 +3,26 @@
 use crate::compare::call::{Call, Files};
 use crate::grouping;
 use crate::room::MOST_NODES;
-use crate::sheet::{read, Sheet, MOST_INPUTS};
+use crate::sheet::{read, Sheet, MOST_SIGNALS};
 
 use super::benches;
 use super::cases::{Effort, Maker};
 use super::damage;
 use super::edit::edit;
 use super::lanes::{self, Drawing};
+use super::long::long_files;
 use super::rewrite::redraw;
 use super::rng::Rng;
 use super::rooms;
 use super::sheets::{self, alike, any_sheet, size, Scale};
 
+/// A theme's name, and what makes a case of it.
 type Theme = (&'static str, fn(&mut Maker));
 
-/// The themes, each as likely as its number says.
+/// The theme of which each run has one case.
+pub const LONG_FILES: Theme = ("long files", long_files);
+
+/// The other themes, each as likely as its number says.
 pub const THEMES: [(usize, Theme); 22] = [
     (120, ("random pairs, tiny", |m| random_pair(m, Scale::Tiny))),
     (
@@ -252,9 +257,7 @@ fn runs(maker: &mut Maker) {
     let sheet = scaled_sheet(rng);
     let most = *rng.weighted(&[(20, 12), (4, 60), (1, 400)]);
     let ticks = rng.below(most + 1);
-    let unused = MOST_INPUTS - sheet.inputs();
-    let vector = |rng: &mut Rng| (u16::from(rng.byte()) >> unused) as u8;
-    let mut vectors: Vec<u8> = (0..ticks).map(|_| vector(rng)).collect();
+    let mut vectors = sheets::vectors(rng, sheet.inputs(), ticks);
     if ticks > 0 && rng.chance(1, 4) {
         for _ in 0..rng.between(1, 2) {
             let tick = rng.below(ticks);
@@ -277,5 +280,13 @@ fn writes(maker: &mut Maker) {
 fn longest_tables(maker: &mut Maker) {
     let files = good_files(&mut maker.rng);
     let words = rooms::longest(&mut maker.rng);
-    maker.call(Call::Check { files, words });
+    let call = match maker.rng.chance(1, 2) {
+        true => Call::Check { files, words },
+        false => Call::Refine {
+            files,
+            words,
+            result: grouping::length(2 * MOST_SIGNALS),
+        },
+    };
+    maker.call(call);
 }

@@ -31,7 +31,8 @@ pub fn objection(
     }
     let together = relation(grouping);
     for _ in 0..POINTS {
-        let point: Vec<bool> = (0..pair.variables()).map(|_| rng.chance(1, 2)).collect();
+        let values = (0..machine.step_variables()).map(|_| rng.chance(1, 2));
+        let point: Vec<bool> = values.collect();
         let values = list.all.iter().map(|f| diagrams.value(*f, &point));
         if values.collect::<Vec<_>>() != machine.step_values(&together, &point) {
             return Some(format!("the list's values are wrong at {point:?}"));

@@ -14,17 +14,41 @@ pub const MOST_TRIED: usize = 9;
 /// The most variables for which a function fits one word.
 pub const MOST_LITERAL: usize = 6;
 
+/// What a variable stands for: what a register of A or of B holds, an input at
+/// the present tick or at the next one.
+#[derive(Clone, Copy, PartialEq, Eq, Debug)]
+enum Variable {
+    OfA,
+    OfB,
+    X,
+    Y,
+}
+
 pub struct Machine {
     a: Raw,
     b: Raw,
+    /// The variables of a step list in the paper's order, each by name; a point
+    /// has a value for each of them. A start list has only the X among them.
+    variables: Vec<Variable>,
     plain: Vec<bool>,
 }
 
+/// What the registers of A hold, and those of B.
+type State = [Vec<bool>; 2];
+
 impl Machine {
     pub fn new(a: Raw, b: Raw) -> Machine {
+        let inputs = a.inputs();
+        let variables = [
+            vec![Variable::OfA; a.registers()],
+            vec![Variable::OfB; b.registers()],
+            vec![Variable::X; inputs],
+            vec![Variable::Y; inputs],
+        ];
         let mut machine = Machine {
             a,
             b,
+            variables: variables.concat(),
             plain: Vec::new(),
         };
         machine.plain = machine.at(&machine.initial(), &[0]);
@@ -39,25 +63,48 @@ impl Machine {
         self.len() == 0
     }
 
-    pub fn inputs(&self) -> usize {
-        self.a.inputs()
+    /// The number of variables of the start list.
+    pub fn start_variables(&self) -> usize {
+        let is_x = |variable: &&Variable| **variable == Variable::X;
+        self.variables.iter().filter(is_x).count()
     }
 
-    pub fn registers(&self) -> usize {
-        self.a.registers() + self.b.registers()
+    /// The number of variables of a step list.
+    pub fn step_variables(&self) -> usize {
+        self.variables.len()
     }
 
-    pub fn variables(&self) -> usize {
-        self.registers() + 2 * self.inputs()
+    fn initial(&self) -> State {
+        [self.a.initial(), self.b.initial()]
     }
 
-    pub fn initial(&self) -> Vec<bool> {
-        [self.a.initial(), self.b.initial()].concat()
+    /// The values that a point gives to the variables of one name.
+    fn named(&self, point: &[bool], name: Variable) -> Vec<bool> {
+        let values = self.variables.iter().zip(point);
+        values
+            .filter(|(v, _)| **v == name)
+            .map(|(_, b)| *b)
+            .collect()
+    }
+
+    fn state(&self, point: &[bool]) -> State {
+        [Variable::OfA, Variable::OfB].map(|name| self.named(point, name))
+    }
+
+    /// All f at a point.
+    fn now(&self, point: &[bool]) -> Vec<bool> {
+        let x = vector(&self.named(point, Variable::X));
+        self.at(&self.state(point), &[x])
+    }
+
+    /// All f at a point, one tick on.
+    fn next(&self, point: &[bool]) -> Vec<bool> {
+        let [x, y] = [Variable::X, Variable::Y].map(|name| vector(&self.named(point, name)));
+        self.at(&self.state(point), &[x, y])
     }
 
     /// All joint signals at the last tick of a run from any joint state.
-    fn at(&self, state: &[bool], vectors: &[u8]) -> Vec<bool> {
-        let (of_a, of_b) = state.split_at(self.a.registers());
+    fn at(&self, [of_a, of_b]: &State, vectors: &[u8]) -> Vec<bool> {
         let mut values = self.a.values(of_a, vectors);
         values.extend(self.b.values(of_b, vectors));
         values
@@ -80,10 +127,12 @@ impl Machine {
 
     /// For which two signals h is equal at s0 for all x.
     pub fn start(&self) -> Relation {
-        let state = self.initial();
         let mut equal = self.related(|_, _| true);
-        for x in vectors(self.inputs()) {
-            part(&mut equal, &self.h(&self.at(&state, &[x])));
+        for x in points(self.start_variables()) {
+            part(
+                &mut equal,
+                &self.h(&self.at(&self.initial(), &[vector(&x)])),
+            );
         }
         equal
     }
@@ -91,13 +140,9 @@ impl Machine {
     /// For which two signals h is equal after every (s, x) with Q, under all y.
     pub fn step(&self, together: &Relation) -> Relation {
         let mut equal = self.related(|_, _| true);
-        for point in points(self.registers() + self.inputs()) {
-            let (state, x) = point.split_at(self.registers());
-            let x = vector(x);
-            if holds(together, &self.h(&self.at(state, &[x]))) {
-                for y in vectors(self.inputs()) {
-                    part(&mut equal, &self.h(&self.at(state, &[x, y])));
-                }
+        for point in points(self.step_variables()) {
+            if holds(together, &self.h(&self.now(&point))) {
+                part(&mut equal, &self.h(&self.next(&point)));
             }
         }
         equal
@@ -112,18 +157,16 @@ impl Machine {
         })
     }
 
-    /// The values of the start list's functions for one input vector.
-    fn start_values(&self, x: u8) -> Vec<bool> {
-        let f = self.at(&self.initial(), &[x]);
+    /// The values of the start list's functions under inputs x.
+    fn start_values(&self, x: &[bool]) -> Vec<bool> {
+        let f = self.at(&self.initial(), &[vector(x)]);
         let h = self.h(&f);
         [f, h].concat()
     }
 
     /// The values of the step list's functions at one point, in their order.
     pub fn step_values(&self, together: &Relation, point: &[bool]) -> Vec<bool> {
-        let (state, inputs) = point.split_at(self.registers());
-        let (x, y) = inputs.split_at(self.inputs());
-        let f = self.at(state, &[vector(x)]);
+        let f = self.now(point);
         let h = self.h(&f);
         let mut list = [f, h.clone()].concat();
         let mut q = true;
@@ -135,7 +178,7 @@ impl Machine {
                 list.extend([equal, q]);
             }
         }
-        let next = self.at(state, &[vector(x), vector(y)]);
+        let next = self.next(point);
         let next_h = self.h(&next);
         list.extend(next);
         list.extend(&next_h);
@@ -143,15 +186,15 @@ impl Machine {
         list
     }
 
-    /// The start list's node count, by fixing variables; at most six inputs.
+    /// The start list's node count, by fixing variables; at most six of them.
     pub fn start_count(&self) -> usize {
-        let point_values = |point: &[bool]| self.start_values(vector(point));
-        literal_count(self.inputs(), point_values)
+        literal_count(self.start_variables(), |x| self.start_values(x))
     }
 
-    /// The step list's node count, by fixing variables; at most six variables.
+    /// A step list's node count, by fixing variables; at most six of them.
     pub fn step_count(&self, together: &Relation) -> usize {
-        literal_count(self.variables(), |point| self.step_values(together, point))
+        let values = |point: &[bool]| self.step_values(together, point);
+        literal_count(self.step_variables(), values)
     }
 }
 
@@ -174,10 +217,6 @@ fn holds(together: &Relation, h: &[bool]) -> bool {
 pub fn both(one: &Relation, other: &Relation) -> Relation {
     let row = |(r, s): (&Vec<bool>, &Vec<bool>)| r.iter().zip(s).map(|(a, b)| *a && *b).collect();
     one.iter().zip(other).map(row).collect()
-}
-
-fn vectors(inputs: usize) -> impl Iterator<Item = u8> {
-    (0..1u16 << inputs).map(|x| x as u8)
 }
 
 /// Input i in bit i.

@@ -14,7 +14,7 @@ use super::faults;
 
 /// The course of a check or a refinement whose files are accepted.
 pub fn course(refines: bool, files: &Files, machine: &Machine, limit: usize) -> Course {
-    match machine.variables() <= MOST_TRIED {
+    match machine.step_variables() <= MOST_TRIED {
         true => tried(refines, files, machine, limit),
         false => crossed(refines, files, limit),
     }
@@ -100,7 +100,7 @@ pub fn pair(files: &Files) -> Pair {
 }
 
 fn start_count(files: &Files, machine: &Machine) -> usize {
-    if machine.inputs() <= MOST_LITERAL {
+    if machine.start_variables() <= MOST_LITERAL {
         return machine.start_count();
     }
     let worked = room::start(&pair(files), MOST_NODES, room::crossed);
@@ -108,7 +108,7 @@ fn start_count(files: &Files, machine: &Machine) -> usize {
 }
 
 fn step_count(files: &Files, machine: &Machine, together: &Relation) -> usize {
-    if machine.variables() <= MOST_LITERAL {
+    if machine.step_variables() <= MOST_LITERAL {
         return machine.step_count(together);
     }
     let grouping = firsts(together);

@@ -5,6 +5,7 @@ use crate::calls::{self, Outcome, Written};
 use crate::compare::call::{Call, Face, Files};
 use crate::course::Course;
 use crate::gen::rng::Rng;
+use crate::gen::sheets::vectors;
 use crate::grouping;
 use crate::room::capacity;
 
@@ -102,65 +103,66 @@ fn answered(course: &Course, tens: usize) -> Vec<u64> {
     }
 }
 
+/// Puts as many numbers into a row as it has places for.
+fn put(numbers: &[u64], row: &mut [u64]) -> usize {
+    for (place, number) in row.iter_mut().zip(numbers) {
+        *place = *number;
+    }
+    numbers.len()
+}
+
+fn written(a: &[u8], result: &mut [u8]) -> Vec<u64> {
+    let file = match read(a, 0) {
+        Ok(raw) => raw.file(),
+        Err(refusal) => return row(refusal),
+    };
+    match result.get_mut(..file.len()) {
+        None => refused(20, file.len()),
+        Some(place) => {
+            place.copy_from_slice(&file);
+            vec![file.len() as u64]
+        }
+    }
+}
+
+fn ran(a: &[u8], vectors: &[u8], result: &mut [u16]) -> Vec<u64> {
+    let raw = match read(a, 0) {
+        Ok(raw) => raw,
+        Err(refusal) => return row(refusal),
+    };
+    let Some(place) = result.get_mut(..vectors.len()) else {
+        return refused(20, vectors.len());
+    };
+    for (tick, vector) in vectors.iter().enumerate() {
+        if (raw.inputs()..8).any(|bit| vector & (1 << bit) != 0) {
+            return refused(21, tick);
+        }
+    }
+    place.copy_from_slice(&raw.run(vectors));
+    vec![vectors.len() as u64]
+}
+
 impl Face for Naive {
-    fn write(&mut self, a: &[u8], result: &mut [u8]) -> Vec<u64> {
-        let file = match read(a, 0) {
-            Ok(raw) => raw.file(),
-            Err(refusal) => return row(refusal),
-        };
-        match result.get_mut(..file.len()) {
-            None => refused(20, file.len()),
-            Some(place) => {
-                place.copy_from_slice(&file);
-                vec![file.len() as u64]
-            }
-        }
+    fn write(&mut self, a: &[u8], result: &mut [u8], row: &mut [u64]) -> usize {
+        put(&written(a, result), row)
     }
 
-    fn run(&mut self, a: &[u8], vectors: &[u8], result: &mut [u16]) -> Vec<u64> {
-        let raw = match read(a, 0) {
-            Ok(raw) => raw,
-            Err(refusal) => return row(refusal),
-        };
-        let Some(place) = result.get_mut(..vectors.len()) else {
-            return refused(20, vectors.len());
-        };
-        for (tick, vector) in vectors.iter().enumerate() {
-            if (raw.inputs()..8).any(|bit| vector & (1 << bit) != 0) {
-                return refused(21, tick);
-            }
-        }
-        place.copy_from_slice(&raw.run(vectors));
-        vec![vectors.len() as u64]
+    fn run(&mut self, a: &[u8], vectors: &[u8], result: &mut [u16], row: &mut [u64]) -> usize {
+        put(&ran(a, vectors, result), row)
     }
 
-    fn check(&mut self, files: &Files, table: &mut [u16]) -> Vec<u64> {
-        clear(table);
-        match read_all(files) {
-            Err(refusal) => row(refusal),
-            Ok(machine) => {
-                let course = self.course(false, files, &machine, table.len());
-                answered(&course, table.len() / 10)
-            }
-        }
+    fn check(&mut self, files: &Files, table: &mut [u16], row: &mut [u64]) -> usize {
+        put(&self.checked(files, table), row)
     }
 
-    fn refine(&mut self, files: &Files, table: &mut [u16], result: &mut [u8]) -> Vec<u64> {
-        clear(table);
-        let machine = match read_all(files) {
-            Err(refusal) => return row(refusal),
-            Ok(machine) => machine,
-        };
-        let needed = 2 * machine.len() + 1;
-        if result.len() < needed {
-            return refused(20, needed);
-        }
-        let course = self.course(true, files, &machine, table.len());
-        let row = answered(&course, table.len() / 10);
-        if let (5, Some(end)) = (row.len(), &course.end) {
-            write_classes(&end.grouping, result);
-        }
-        row
+    fn refine(
+        &mut self,
+        files: &Files,
+        table: &mut [u16],
+        result: &mut [u8],
+        row: &mut [u64],
+    ) -> usize {
+        put(&self.refined(files, table, result), row)
     }
 
     fn objection(&mut self, call: &Call, outcome: &Outcome) -> Option<String> {
@@ -182,7 +184,7 @@ impl Face for Naive {
         if verdict.rounds >= machine.len() as u64 {
             return Some("there are more rounds than n - 1".into());
         }
-        if machine.variables() > MOST_TRIED {
+        if machine.step_variables() > MOST_TRIED {
             if !passes_check(files, bytes, words, &verdict) {
                 return Some("what it wrote does not pass a check".into());
             }
@@ -205,13 +207,40 @@ impl Face for Naive {
 }
 
 impl Naive {
+    fn checked(&mut self, files: &Files, table: &mut [u16]) -> Vec<u64> {
+        clear(table);
+        match read_all(files) {
+            Err(refusal) => row(refusal),
+            Ok(machine) => {
+                let course = self.course(false, files, &machine, table.len());
+                answered(&course, table.len() / 10)
+            }
+        }
+    }
+
+    fn refined(&mut self, files: &Files, table: &mut [u16], result: &mut [u8]) -> Vec<u64> {
+        clear(table);
+        let machine = match read_all(files) {
+            Err(refusal) => return row(refusal),
+            Ok(machine) => machine,
+        };
+        let needed = 2 * machine.len() + 1;
+        if result.len() < needed {
+            return refused(20, needed);
+        }
+        let course = self.course(true, files, &machine, table.len());
+        let row = answered(&course, table.len() / 10);
+        if let (5, Some(end)) = (row.len(), &course.end) {
+            write_classes(&end.grouping, result);
+        }
+        row
+    }
+
     fn run_alike(&mut self, files: &Files) -> bool {
         let (Ok(a), Ok(b)) = (read(&files.a, 0), read(&files.b, 1)) else {
             return false;
         };
-        let unused = 8 - a.inputs();
-        let vector = |rng: &mut Rng| (u16::from(rng.byte()) >> unused) as u8;
-        let vectors: Vec<u8> = (0..TICKS).map(|_| vector(&mut self.rng)).collect();
+        let vectors = vectors(&mut self.rng, a.inputs(), TICKS);
         a.run(&vectors) == b.run(&vectors)
     }
 }

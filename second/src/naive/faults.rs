@@ -73,10 +73,6 @@ fn order(number: u64) -> usize {
     place.expect("a fault of a file")
 }
 
-fn is_signal(record: &Record) -> bool {
-    (1..=6).contains(&record.kind)
-}
-
 fn earliest(faults: Vec<(usize, Fault)>) -> Option<Fault> {
     let time = |(record, fault): &(usize, Fault)| -> Time { (*record, order(fault.number)) };
     faults.into_iter().min_by_key(time).map(|(_, fault)| fault)
@@ -86,8 +82,10 @@ fn earliest(faults: Vec<(usize, Fault)>) -> Option<Fault> {
 pub fn sheet(file: &[u8]) -> Result<Vec<Record>, Fault> {
     let Cut { records, broken } = cut(file, &IN_SHEET);
     let mut faults: Vec<(usize, Fault)> = Vec::new();
-    for place in 0..records.len() {
-        let found = sheet_faults(file, &records, place).into_iter();
+    let mut tally = Tally::default();
+    for (place, record) in records.iter().enumerate() {
+        tally[usize::from(record.kind)] += 1;
+        let found = sheet_faults(file, &records, record, &tally).into_iter();
         faults.extend(found.map(|fault| (place, fault)));
     }
     faults.extend(broken.map(|fault| (records.len(), fault)));
@@ -97,21 +95,21 @@ pub fn sheet(file: &[u8]) -> Result<Vec<Record>, Fault> {
     }
 }
 
-fn sheet_faults(file: &[u8], records: &[Record], place: usize) -> Vec<Fault> {
-    let record = &records[place];
+/// How many records of each kind there are up to a record, itself included.
+type Tally = [usize; 9];
+
+fn sheet_faults(file: &[u8], records: &[Record], record: &Record, tally: &Tally) -> Vec<Fault> {
     let mut faults = Vec::new();
     let mut test = |wrong: bool, number: u64, position: usize| {
         if wrong {
             faults.push(Fault::new(number, position));
         }
     };
-    let so_far = &records[..=place];
-    let of_kind = |kind: u8| so_far.iter().filter(|r| r.kind == kind).count();
-    let signals = so_far.iter().filter(|r| is_signal(r)).count();
+    let signals: usize = tally[1..=6].iter().sum();
     let many = match record.kind {
-        1 => of_kind(1) > 8 || signals > 120,
-        2 => of_kind(2) > 12 || signals > 120,
-        7 => of_kind(7) > 16,
+        1 => tally[1] > 8 || signals > 120,
+        2 => tally[2] > 12 || signals > 120,
+        7 => tally[7] > 16,
         8 => false,
         _ => signals > 120,
     };
@@ -125,7 +123,7 @@ fn sheet_faults(file: &[u8], records: &[Record], place: usize) -> Vec<Fault> {
     if record.kind == 8 {
         let after = record.offset + 1;
         test(after < file.len(), answer::AFTER, after);
-        test(of_kind(7) == 0, answer::NO_OUTPUT, record.offset);
+        test(tally[7] == 0, answer::NO_OUTPUT, record.offset);
         let names_none =
             |r: &&Record| [2, 7].contains(&r.kind) && usize::from(r.body[1]) >= signals;
         let dangling = records.iter().find(names_none).map(|r| r.offset);
