@@ -1,20 +1,17 @@
 -- Laws of what refine says of two sheets and a proposal. Assumes nothing.
 use mathlib.Core.Path.{_≡_, refl, sym, ap, _∙_, subst}
-use mathlib.Core.Bool.{Bool, true, false}
 use mathlib.Core.List.{List, []}
 use Prim.Native.Nat.{ℕ, suc, _+_, _*_, _≤_, _<_}
 use native.Mathlib.Omega.{arith}
 use native.Mathlib.Numerals.{add-one}
-use lib.ListN.{length, getD}
+use lib.ListN.{length}
 use lib.Dec.{ltb}
-use Rattle.meaning.specs.Basic.{if_then_else_}
 use Rattle.meaning.specs.Numbers.{NO-ROOM, no-file, OUTPUTS}
 use Rattle.meaning.specs.Sheet.{Sheet, classBytes}
-use Rattle.meaning.specs.Joint.{total, outputFault, T}
+use Rattle.meaning.specs.Joint.{total, outputFault, T, rounds}
 use Rattle.meaning.specs.Room.{startCount, stepCount}
 use Rattle.meaning.specs.Answer as paper
 use Rattle.laws.proofs.Basic.{case-bool}
-use Rattle.promises.specs.Correspondence.{StartEqual}
 use Rattle.promises.specs.Calls.{LeastFailing, Worked}
 use Rattle.promises.proofs.Equations.{length-T}
 use Rattle.promises.proofs.Rounds.{rounds-lt}
@@ -24,19 +21,20 @@ use Rattle.answer.specs.declared.Answer.the-variants.{Equivalent, Undecided, Wr
 use Rattle.answer.specs.declared.Refusal.the-variants.{NoRoom}
 use Rattle.answer.specs.declared.File.the-variants.{Nothing}
 use Rattle.answer.specs.Meant.{refusalOf, fileOf, answerOf}
-use Rattle.diagram.specs.Words.{roomOf, restOf}
+use Rattle.diagram.specs.Words.{roomOf}
 use Rattle.diagram.specs.declared.Head.{Head}
 use Rattle.fill.specs.declared.Worked as worked
 use Rattle.fill.specs.declared.Worked.the-variants.{Done, Over}
 use Rattle.groups.specs.ByIds.{splitBy}
 use Rattle.groups.proofs.Telling.{start-split, T-below}
 use Rattle.work.specs.declared.Pair.{Pair}
-use Rattle.work.specs.Lists.{left, right, joint, StartSays}
+use Rattle.work.specs.Lists.{left, right, joint, Exceeds, StartSays}
+use Rattle.work.specs.Stages.{FrontDone}
 use Rattle.correspond.specs.declared.Settled.{Settled}
 use Rattle.correspond.specs.declared.Settled.the-variants as settled
-use Rattle.correspond.specs.Verdicts.{Grouped, Lent, SettledFrom, SettleSays, writtenBy, Writes, Below, RefineSays}
+use Rattle.correspond.specs.Verdicts.{Grouped, Lent, Counted, SettledFrom, SettleSays, writtenBy, Writes, Below, RefineSays}
 use Rattle.correspond.proofs.Pairing.{few-signals}
-use Rattle.correspond.proofs.Verdicts.{list-done, list-over, fits-lent, exceeds-lent, lent-after, all-tell}
+use Rattle.correspond.proofs.Verdicts.{list-done, list-over, fits-lent, exceeds-lent, lent-after, front-lent, front-counted, all-tell}
 
 -- ## A verdict on the outputs is no refusal and no length
 
@@ -114,12 +112,61 @@ module _ (p : Pair) (proposal : List ℕ) (ok : Grouped p proposal) (w : List �
   unfolding joint
   begun-long u g b x = ap length (x .grouping) ∙ length-T (left p) (right p) proposal 0
 
-  module _ (u g : List ℕ) (b : Head) (x : Begun u g b) (u′ g′ : List ℕ) (z : Settled) (says : SettleSays p g u b u′ g′ z) where
+  -- ## The first step list without room is that of T_r
+
+  no-room : (u : List ℕ) → startCount (left p) (right p) ≤ roomOf w → (r : ℕ)
+      → LeastFailing (suc (rounds (left p) (right p) proposal)) (λ i. stepCount (left p) (right p) (T (left p) (right p) proposal i) ≤ roomOf w) r
+      → (g : List ℕ) → length g ≡ joint p → Lent w u → RefineSays p proposal w u g (Refused NoRoom Nothing (r + 1))
+  unfolding answerOf refusalOf fileOf writtenBy Writes joint answerIn writtenIn paper.refuse paper.silent
+  no-room u fits r over g long lent =
+      let is : (space : ℕ) → 2 * total (left p) (right p) + 1 ≤ space → paper.refineVerdict (roomOf w) space (left p) (right p) proposal ≡ paper.refuse NO-ROOM no-file (suc r) =
+      λ space l. out-at-step (left p) (right p) proposal pos (roomOf w) space r l fits over in
+      record {
+        answer = λ space l. rw (add-one r) (sym (ap answerIn (is space l)));
+        written = λ space l. sym (ap writtenIn (is space l));
+        below = λ v. absurd v;
+        size = long;
+        lent = lent;
+      }
+
+  -- ## The front of the step lists
+
+  -- where there is no room for it, there is none for the step list of T_0
+  pub refine-no-front : (u g : List ℕ) (b : Head) → Begun u g b → (u′ : List ℕ)
+      → ((g : List ℕ) → length g ≡ joint p → Exceeds (stepCount (left p) (right p) g) u u′) → RefineSays p proposal w u′ g (Refused NoRoom Nothing 1)
+  refine-no-front u g b x u′ says =
+      let over = says g (begun-long u g b x) in
+      let first = ap (stepCount (left p) (right p)) (x .grouping) in
+      no-room u′ (x .fits) 0 (record {
+        below = omega arith;
+        fails = λ l. omega (arith, l, over .over, x .lent .room, first);
+        before = λ i l. absurd (omega arith);
+      }) g (begun-long u g b x) (lent-after w u u′ (x .lent) (exceeds-lent _ u u′ over))
+
+  pub record Fronted (u g : List ℕ) (b : Head) : Type 0 where
+    pub fits : startCount (left p) (right p) ≤ roomOf w
+    pub counted : Counted p b g
+    pub grouping : g ≡ T (left p) (right p) proposal 0
+    pub size : length g ≡ joint p
+    pub lent : Lent w u
+
+  pub fronted : (u g : List ℕ) (b : Head) → Begun u g b → (u′ h h′ : List ℕ) (b′ : Head) → FrontDone p u b u′ b′ h h′ → Fronted u′ g b′
+  fronted u g b x u′ h h′ b′ f = record {
+    fits = x .fits;
+    counted = front-counted p u b u′ b′ h h′ f (x .most) g (begun-long u g b x);
+    grouping = x .grouping;
+    size = begun-long u g b x;
+    lent = lent-after w u u′ (x .lent) (front-lent p u b u′ b′ h h′ f);
+  }
+
+  -- ## The rounds
+
+  module _ (u g : List ℕ) (b : Head) (x : Fronted u g b) (u′ g′ : List ℕ) (z : Settled) (says : SettleSays p g u b u′ g′ z) where
     ended : SettledFrom (roomOf u) p proposal g′ z
-    ended = says .from proposal (x .grouping) (omega (arith, x .fits, x .lent .room)) (x .most)
+    ended = says .from proposal (x .grouping) (omega (arith, x .fits, x .lent .room)) (x .counted)
 
     pub settled-long : length g′ ≡ joint p
-    settled-long = says .size ∙ begun-long u g b x
+    settled-long = says .size ∙ x .size
 
     pub over-few : (r : ℕ) → z ≡ settled.Over r → r ≤ 65535
     unfolding SettledFrom joint
@@ -128,18 +175,8 @@ module _ (p : Pair) (proposal : List ℕ) (ok : Grouped p proposal) (w : List �
         omega (arith, over .below, rounds-lt (left p) (right p) proposal pos, few-signals p proposal ok, ok .size)
 
     pub refine-over : (r : ℕ) → z ≡ settled.Over r → RefineSays p proposal w u′ g′ (Refused NoRoom Nothing (r + 1))
-    unfolding SettledFrom answerOf refusalOf fileOf writtenBy Writes joint answerIn writtenIn paper.refuse paper.silent
-    refine-over r e =
-        let over : LeastFailing _ _ r = rw (x .lent .room) at (rw e at ended) in
-        let is : (space : ℕ) → 2 * total (left p) (right p) + 1 ≤ space → paper.refineVerdict (roomOf w) space (left p) (right p) proposal ≡ paper.refuse NO-ROOM no-file (suc r) =
-        λ space l. out-at-step (left p) (right p) proposal pos (roomOf w) space r l (x .fits) over in
-        record {
-          answer = λ space l. rw (add-one r) (sym (ap answerIn (is space l)));
-          written = λ space l. sym (ap writtenIn (is space l));
-          below = λ v. absurd v;
-          size = settled-long;
-          lent = lent-after w u u′ (x .lent) (says .lent);
-        }
+    unfolding SettledFrom
+    refine-over r e = no-room u′ (x .fits) r (rw (x .lent .room) at (rw e at ended)) g′ settled-long (lent-after w u u′ (x .lent) (says .lent))
 
     pub refine-after : (r : ℕ) (c : Head) → z ≡ settled.After r c → (y : Answer)
         → answerOf y ≡ paper.outputsVerdict (left p) (right p) g′ r (c .most) → RefineSays p proposal w u′ g′ y

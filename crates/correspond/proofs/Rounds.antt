@@ -1,8 +1,8 @@
 -- Laws of the rounds: how they begin, go on, settle, and run out of room. Assumes nothing.
 use mathlib.Core.Path.{_≡_, refl, sym, ap, _∙_, subst}
-use mathlib.Core.Bool.{Bool, true, false}
+use mathlib.Core.Bool.{true, false}
 use mathlib.Core.List.{List}
-use Prim.Native.Nat.{ℕ, suc, _+_, _≤_, _<_, max}
+use Prim.Native.Nat.{ℕ, suc, _≤_, _<_, max}
 use native.Mathlib.Omega.{arith}
 use lib.Dec.{ltb, eqb}
 use borrow.Author.Tests.{ltb-true, ltb-false, eqb-true, eqb-false}
@@ -11,9 +11,8 @@ use Rattle.meaning.specs.Sheet.{Sheet}
 use Rattle.meaning.specs.Joint.{total, grouping, stepSame, T, rounds}
 use Rattle.meaning.specs.Room.{startCount, stepCount}
 use Rattle.laws.proofs.Basic.{case-bool, true-false, sameList-eq, sameList-refl}
-use Rattle.promises.specs.Calls.{LeastFailing, Greatest, Rounds, Worked}
+use Rattle.promises.specs.Calls.{LeastFailing, Greatest, Worked}
 use Rattle.promises.proofs.Rounds.{rounds-lt, rounds-fixed}
-use Rattle.promises.proofs.Refines.{rounds-is}
 use Rattle.correspond.specs.Rounds.{GreatestBelow, Running}
 
 greatest-more : (base : ℕ) (c : ℕ → ℕ) (r m : ℕ) → GreatestBelow base c r m → GreatestBelow base c (suc r) (max m (c r))
@@ -28,11 +27,12 @@ greatest-more base c r m g = record {
         (λ t. let here : i ≡ r = eqb-true i r t in rw here (omega arith))
         (λ t. let other = eqb-false i r t in omega (arith, g .each i (omega arith)))
 
-greatest-end : (base : ℕ) (c : ℕ → ℕ) (r m : ℕ) → GreatestBelow base c (suc r) m → Greatest base c r m
-greatest-end base c r m g = record {
-  base = g .from;
+-- instead of base there may be any base′ that comes to the same beside c 0
+greatest-end : (base base′ : ℕ) (c : ℕ → ℕ) (r m : ℕ) → max base (c 0) ≡ max base′ (c 0) → GreatestBelow base c (suc r) m → Greatest base′ c r m
+greatest-end base base′ c r m e g = record {
+  base = omega (arith, e, g .from, g .each 0 (omega arith));
   each = λ i l. g .each i (omega arith);
-  least = λ k l h. g .least k l (λ i q. h i (omega arith));
+  least = λ k l h. g .least k (omega (arith, e, l, h 0 (omega arith))) (λ i q. h i (omega arith));
 }
 
 module _ (N base : ℕ) (A B : Sheet) (p : List ℕ) where
@@ -76,14 +76,13 @@ module _ (N base : ℕ) (A B : Sheet) (p : List ℕ) where
             (λ t. let other = eqb-false i r t in run .changed i (omega arith))
 
     -- the round left it as it was
-    pub running-settled : startCount A B ≤ N → base ≡ startCount A B → stepCount A B g ≤ N
-        → sameList g (grouping (total A B) (stepSame A B g)) ≡ true → Worked A B p N r (max m (stepCount A B g))
+    pub running-settled : startCount A B ≤ N → max base (stepCount A B (T A B p 0)) ≡ max (startCount A B) (stepCount A B (T A B p 0))
+        → stepCount A B g ≤ N → sameList g (grouping (total A B) (stepSame A B g)) ≡ true → Worked A B p N r (max m (stepCount A B g))
     running-settled start e room same = record {
       rounds = record { settled = sym (run .grouping) ∙ sameList-eq g _ same ∙ running-next; least = run .changed };
       start-room = start;
       step-room = λ i l. fitted-more room i (omega arith);
-      greatest = subst (λ (b : ℕ). Greatest b (λ i. stepCount A B (T A B p i)) r (max m (stepCount A B g))) e
-          (greatest-end base (λ i. stepCount A B (T A B p i)) r _ most-more);
+      greatest = greatest-end base (startCount A B) (λ i. stepCount A B (T A B p i)) r _ e most-more;
     }
 
     -- the rounds that change something are fewer than the signals

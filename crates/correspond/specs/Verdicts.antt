@@ -20,6 +20,7 @@ use Rattle.sheet.specs.Stored.{outputAt, Whole}
 use Rattle.groups.specs.ByIds.{sameBy}
 use Rattle.work.specs.declared.Pair.{Pair}
 use Rattle.work.specs.Lists.{left, right, joint, Alike}
+use Rattle.work.specs.Stages.{Front}
 use Rattle.correspond.specs.declared.Round.{Round}
 use Rattle.correspond.specs.declared.Round.the-variants.{Stays, Splits, Over}
 use Rattle.correspond.specs.declared.Settled.{Settled}
@@ -73,10 +74,11 @@ pub record RoundFits (p : Pair) (g w : List ℕ) (a : Head) (u : List ℕ) (b : 
   pub most : b .most ≡ max (a .most) (stepCount (left p) (right p) g)
   pub lent : Lent w u
 
-unfoldable pub RoundSays : Pair → List ℕ → List ℕ → Head → List ℕ → List ℕ → Round → Type 0
-RoundSays p g w a u g′ (Stays b) = RoundFits p g w a u b × (sameList g (nextOf p g) ≡ true) × (g′ ≡ g)
-RoundSays p g w a u g′ (Splits b) = RoundFits p g w a u b × (sameList g (nextOf p g) ≡ false) × (g′ ≡ nextOf p g)
-RoundSays p g w a u g′ Over = (roomOf w < stepCount (left p) (right p) g) × Lent w u × (g′ ≡ g)
+-- Where the grouping splits, the table has the front of the step list again, and nothing else.
+unfoldable pub RoundSays : Pair → List ℕ → List ℕ → List ℕ → List ℕ → Head → List ℕ → List ℕ → Round → Type 0
+RoundSays p h h′ g w a u g′ (Stays b) = RoundFits p g w a u b × (sameList g (nextOf p g) ≡ true) × (g′ ≡ g)
+RoundSays p h h′ g w a u g′ (Splits b) = RoundFits p g w a u b × (sameList g (nextOf p g) ≡ false) × (g′ ≡ nextOf p g) × Front p u b h h′ × (b .used ≡ a .used)
+RoundSays p h h′ g w a u g′ Over = (roomOf w < stepCount (left p) (right p) g) × Lent w u × (g′ ≡ g)
 
 -- ## All rounds
 
@@ -86,11 +88,15 @@ SettledFrom N p proposal g (settled.After r b) = Worked (left p) (right p) propo
 SettledFrom N p proposal g (settled.Over r) =
     LeastFailing (suc (rounds (left p) (right p) proposal)) (λ i. stepCount (left p) (right p) (T (left p) (right p) proposal i) ≤ N) r
 
+-- a head has counted the start list, and no more beside it than the step list of g
+abbrev pub Counted : Pair → Head → List ℕ → Type 0
+Counted p a g = max (a .most) (stepCount (left p) (right p) g) ≡ max (startCount (left p) (right p)) (stepCount (left p) (right p) g)
+
 pub record SettleSays (p : Pair) (g w : List ℕ) (a : Head) (u g′ : List ℕ) (z : Settled) : Type 0 where
   pub lent : Lent w u
   pub size : length g′ ≡ length g
   pub from : (proposal : List ℕ) → g ≡ T (left p) (right p) proposal 0 → startCount (left p) (right p) ≤ roomOf w
-      → a .most ≡ startCount (left p) (right p) → SettledFrom (roomOf w) p proposal g′ z
+      → Counted p a g → SettledFrom (roomOf w) p proposal g′ z
 
 -- ## Refine
 

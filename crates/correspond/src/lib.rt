@@ -6,12 +6,14 @@ ghost use Rattle.meaning.specs.Answer.{outputsVerdict};
 ghost use Rattle.answer.specs.Meant.{answerOf};
 ghost use Rattle.groups.specs.ByIds.{sameBy};
 ghost use Rattle.work.specs.Lists.{left, right, joint};
+ghost use Rattle.work.specs.Stages.{Front};
 ghost use Rattle.correspond.specs.Verdicts.{Shown, unpairedBy, Grouped, CheckSays, RoundSays, SettleSays, RefineSays};
 use answer::Answer;
 use answer::File;
 use answer::Reason;
 use answer::Refusal;
 use diagram::Head;
+use diagram::forget::forget;
 use fill::Worked;
 use groups::copy;
 use groups::fault;
@@ -19,6 +21,7 @@ use groups::same_groups;
 use groups::split;
 use sheet::Sheet;
 use work::Pair;
+use work::front_list;
 use work::start_list;
 use work::step_list;
 
@@ -71,9 +74,16 @@ fn outputs(p: Pair, g: &[u16], rounds: usize, nodes: usize) -> Answer
     Answer::Equivalent(rounds, nodes)
 }
 
-// Start room, START, step room, STEP, outputs. The ids are put into the lent array.
-pub fn check_pair(t: &mut [u16], p: Pair, g: &[u16], ids: &mut [u16]) -> Answer
-    requires { ⌜ Grouped p (now g) × (length (now ids) ≡ joint p) ⌝ }
+// Start room, START, step room, STEP, outputs. The ids are put into the lent arrays: those of the lists, and of all h now and one tick on.
+pub fn check_pair(
+    t: &mut [u16],
+    p: Pair,
+    g: &[u16],
+    ids: &mut [u16],
+    h: &mut [u16],
+    h_next: &mut [u16],
+) -> Answer
+    requires { ⌜ Grouped p (now g) × (length (now ids) ≡ joint p) × (length (now h) ≡ joint p) × (length (now «h_next») ≡ joint p) ⌝ }
     ensures { λ r. ⌜ CheckSays p (now (g .entry)) (now (t .entry)) (now (t .exit)) r ⌝ }
 {
     let n = g.len();
@@ -85,7 +95,11 @@ pub fn check_pair(t: &mut [u16], p: Pair, g: &[u16], ids: &mut [u16]) -> Answer
     if v < n {
         return Answer::Undecided(Reason::Start, v, 0, first.most);
     }
-    let step = step_list(t, first, p, g, ids);
+    let begun = front_list(t, first, p, h, h_next);
+    let Worked::Done(front) = begun else {
+        return no_room(1);
+    };
+    let step = step_list(t, front, p, g, h, h_next, ids);
     let Worked::Done(second) = step else {
         return no_room(1);
     };
@@ -103,7 +117,8 @@ pub enum Round {
     Over,
 }
 
-// One round: g split by the step rule under g. The ids and the grouping that comes next are put into the lent arrays.
+// One round: g split by the step rule under g. The ids and the grouping that comes next are put into the lent arrays. The table comes with the
+// front of the step list, and where the grouping splits it has the front again.
 fn one_round(
     t: &mut [u16],
     head: Head,
@@ -111,11 +126,13 @@ fn one_round(
     g: &mut [u16],
     ids: &mut [u16],
     next: &mut [u16],
+    h: &[u16],
+    h_next: &[u16],
 ) -> Round
-    requires { ⌜ Grouped p (now g) × (length (now ids) ≡ joint p) × (length (now next) ≡ joint p) ⌝ }
-    ensures { λ r. ⌜ RoundSays p (now (g .entry)) (now (t .entry)) head (now (t .exit)) (now (g .exit)) r ⌝ }
+    requires { ⌜ Grouped p (now g) × (length (now ids) ≡ joint p) × (length (now next) ≡ joint p) × Front p (now t) head (now h) (now «h_next») ⌝ }
+    ensures { λ r. ⌜ RoundSays p (now (h .entry)) (now («h_next» .entry)) (now (g .entry)) (now (t .entry)) head (now (t .exit)) (now (g .exit)) r ⌝ }
 {
-    let step = step_list(t, head, p, g, ids);
+    let step = step_list(t, head, p, g, h, h_next, ids);
     let Worked::Done(after) = step else {
         return Round::Over;
     };
@@ -124,7 +141,8 @@ fn one_round(
         return Round::Stays(after);
     }
     copy(next, g);
-    Round::Splits(after)
+    let front = forget(t, after, head.used);
+    Round::Splits(front)
 }
 
 // How the rounds end: after so many that split something, or at the first whose step list has no room.
@@ -133,7 +151,8 @@ pub enum Settled {
     Over(usize),
 }
 
-// Rounds until the grouping stays. Each round but the last splits a class, so they are fewer than the signals.
+// Rounds until the grouping stays. Each round but the last splits a class, so they are fewer than the signals. The front of
+// their step lists is made once: each goes on from it.
 fn settle(
     t: &mut [u16],
     head: Head,
@@ -141,15 +160,17 @@ fn settle(
     g: &mut [u16],
     ids: &mut [u16],
     next: &mut [u16],
+    h: &[u16],
+    h_next: &[u16],
 ) -> Settled
-    requires { ⌜ Grouped p (now g) × (length (now ids) ≡ joint p) × (length (now next) ≡ joint p) ⌝ }
+    requires { ⌜ Grouped p (now g) × (length (now ids) ≡ joint p) × (length (now next) ≡ joint p) × Front p (now t) head (now h) (now «h_next») ⌝ }
     ensures { λ r. ⌜ SettleSays p (now (g .entry)) (now (t .entry)) head (now (t .exit)) (now (g .exit)) r ⌝ }
 {
     let n = g.len();
     let mut hd = head;
     let mut r = 0;
     while r < n {
-        let round = one_round(t, hd, p, g, ids, next);
+        let round = one_round(t, hd, p, g, ids, next, h, h_next);
         match round {
             Round::Stays(last) => {
                 return Settled::After(r, last);
@@ -174,8 +195,10 @@ pub fn refine_pair(
     g: &mut [u16],
     ids: &mut [u16],
     next: &mut [u16],
+    h: &mut [u16],
+    h_next: &mut [u16],
 ) -> Answer
-    requires { ⌜ Grouped p (now proposal) × (length (now g) ≡ joint p) × (length (now ids) ≡ joint p) × (length (now next) ≡ joint p) ⌝ }
+    requires { ⌜ Grouped p (now proposal) × (length (now g) ≡ joint p) × (length (now ids) ≡ joint p) × (length (now next) ≡ joint p) × (length (now h) ≡ joint p) × (length (now «h_next») ≡ joint p) ⌝ }
     ensures { λ r. ⌜ RefineSays p (now (proposal .entry)) (now (t .entry)) (now (t .exit)) (now (g .exit)) r ⌝ }
 {
     let start = start_list(t, Head::new(), p, ids);
@@ -183,7 +206,11 @@ pub fn refine_pair(
         return no_room(0);
     };
     split(proposal, ids, g);
-    let ended = settle(t, first, p, g, ids, next);
+    let begun = front_list(t, first, p, h, h_next);
+    let Worked::Done(front) = begun else {
+        return no_room(1);
+    };
+    let ended = settle(t, front, p, g, ids, next, h, h_next);
     match ended {
         Settled::Over(list) => no_room(list + 1),
         Settled::After(rounds, last) => outputs(p, g, rounds, last.most),

@@ -8,15 +8,25 @@ use Rattle.tree.specs.Tree.{Tree, glue, height, branch, complementTree}
 use Rattle.tree.proofs.Glue.{sub-low, sub-high}
 use Rattle.tree.proofs.Combine.{combine-step, combine-height, branch-height}
 use Rattle.diagram.specs.declared.Head.{Head}
+use Rattle.diagram.specs.declared.Hit.the-variants.{Is}
 use Rattle.diagram.specs.declared.Made.{Made}
 use Rattle.diagram.specs.declared.Op.{Op}
 use Rattle.diagram.specs.declared.Op.the-variants.{Equal}
 use Rattle.diagram.specs.declared.Sides.{Sides}
 use Rattle.diagram.specs.Operation.{opOf}
-use Rattle.diagram.specs.Table.{treeAt, glued, combined}
-use Rattle.diagram.specs.Contract.{Grown, Has, Lacks, Says, MakeAsks, CombineAsks, ComplementAsks, Goes, FinishAsks}
+use Rattle.diagram.specs.Table.{treeAt, glued, combined, Means}
+use Rattle.diagram.specs.Contract.{Grown, Has, Lacks, Says, Ready, MakeAsks, CombineAsks, ComplementAsks, Early, Goes, FinishAsks}
 use Rattle.diagram.proofs.Trees.{tree-constant, height-constant}
-use Rattle.diagram.proofs.Grown.{tally-after, grown-wider, grown-after, has-ready, lacks-wider, lacks-after, says-after}
+use Rattle.diagram.proofs.Grown.{tally-after, grown-wider, grown-after, has-there, has-ready, lacks-wider, lacks-after, says-after}
+
+-- ## Known results
+
+pub known-has : (w : List ℕ) (a : Head) (op : Op) (x y r : ℕ) → Ready w a → Means w (a .used) (opOf op) x y r → Has w a (combined w (a .used) (opOf op) x y) w a r
+known-has w a op x y r k m = has-there w a _ r k (m .id) (m .is)
+
+pub early-has : (w : List ℕ) (a : Head) (op : Op) (x y left r : ℕ) → CombineAsks w a x y left → Early (opOf op) x y (Is r) → Has w a (combined w (a .used) (opOf op) x y) w a r
+unfolding Early
+early-has w a op x y left r ask e = known-has w a op x y r (ask .ready) (e w (a .used) (ask .ready .good) (ask .first .id) (ask .second .id))
 
 module _ (w : List ℕ) (a : Head) (op : Op) (x y left : ℕ) (s : Sides) (ask : CombineAsks w a x y left) (go : Goes w (a .used) x y s) where
   -- the results on the two branches

@@ -8,19 +8,10 @@ use lib.ListN.{length, replicate, drop, List·getD-append, length-append, length
 use Rattle.meaning.specs.Numbers.{nodeWords}
 use Rattle.meaning.specs.Room.{capacity, cleared}
 use Rattle.tree.specs.Tree.{leaf, Reduced}
-use Rattle.diagram.specs.declared.Op.{Op}
-use Rattle.diagram.specs.declared.Op.the-variants.{And, Or, Xor, Equal}
-use Rattle.diagram.specs.Operation.{codeOf}
-use Rattle.diagram.specs.Words.{BUCKET, OPERATION, at, roomOf, restOf}
+use Rattle.diagram.specs.Words.{BUCKET, OPERATION, STAMP, at, roomOf, restOf}
 use Rattle.diagram.specs.Table.{treeAt, Good}
 use Rattle.diagram.proofs.Trees.{tree-constant}
-
-code-some : (op : Op) → 0 < codeOf op
-unfolding codeOf
-code-some And = omega arith
-code-some Or = omega arith
-code-some Xor = omega arith
-code-some Equal = omega arith
+use Rattle.diagram.proofs.Codes.{code-some}
 
 constants-once : (w : List ℕ) (a b : ℕ) → a < 2 → b < 2 → treeAt w 0 a ≡ treeAt w 0 b → a ≡ b
 constants-once w zero zero la lb e = refl
@@ -42,6 +33,9 @@ zeros-good w z = record {
   next = λ i li. absurd (omega arith);
   first = λ b lb. omega (arith, z b BUCKET lb (omega arith));
   chained = λ i li. absurd (omega arith);
+  first-home = λ b lb i e. absurd (omega (arith, z b BUCKET lb (omega arith)));
+  next-home = λ i li. absurd (omega arith);
+  stamped = record { small = λ some. omega (arith, z 0 STAMP some (omega arith)); slots = λ i li. omega (arith, z i OPERATION li (omega arith)) };
   cached = λ i li op e. absurd (omega (arith, z i OPERATION li (omega arith), code-some op));
 }
 

@@ -11,13 +11,13 @@ use Rattle.tree.specs.Tree.{node, Reduced, whole}
 use Rattle.tree.proofs.Glue.{glue-same, glue-apart, node-inner}
 use Rattle.diagram.specs.declared.Head.{Head}
 use Rattle.diagram.specs.declared.Op.{Op}
-use Rattle.diagram.specs.Operation.{codeOf}
-use Rattle.diagram.specs.Words.{HEIGHT, LOW, HIGH, NEXT, BUCKET, OPERATION, LEFT, RIGHT, RESULT, at, roomOf}
-use Rattle.diagram.specs.Table.{bucketOf, treeAt, glued, added, On, here, there, Cached, Good}
+use Rattle.diagram.specs.Words.{HEIGHT, LOW, HIGH, NEXT, BUCKET, OPERATION, LEFT, RIGHT, RESULT, STAMP, at, roomOf}
+use Rattle.diagram.specs.Table.{bucketOf, homeOf, keyOf, treeAt, glued, added, Home, On, here, there, Cached, Good}
 use Rattle.diagram.specs.Contract.{MakeAsks, Has, Lacks}
 use Rattle.diagram.proofs.Trees.{tree-node, inner-id}
 use Rattle.diagram.proofs.Chain.{on-frame}
 use Rattle.diagram.proofs.Added.{bucket-lt, bucket-room, added-room, added-rest, added-old, added-buckets, added-height, added-low, added-high, added-next, added-bucket, added-tree, added-keeps, added-cache}
+use Rattle.diagram.proofs.Frame.{home-same, stamped-same}
 use Rattle.diagram.proofs.Grown.{grown-none, has-there, tally-none, tally-one}
 
 last-or-old : (i n : ℕ) → i < suc n → (i ≡ n) ⊎ (i < n)
@@ -32,50 +32,64 @@ module _ (w : List ℕ) (n v l h : ℕ) (g : Good w n) (lt : n < roomOf w) where
     | no q ↦ omega (arith, added-buckets w n v l h b q, g .first b (omega (arith, added-room w n v l h)))
   ]
 
-  added-chained : (i : ℕ) → i < suc n
-      → On (added w n v l h) i (at (added w n v l h) (bucketOf (added w n v l h) (at (added w n v l h) i HEIGHT) (at (added w n v l h) i LOW) (at (added w n v l h) i HIGH)) BUCKET)
+  added-home : (i : ℕ) → (i ≡ n → ⊥) → homeOf (added w n v l h) i ≡ homeOf w i
+  added-home i ne = home-same w (added w n v l h) (added-room w n v l h) i (λ k lk. added-old w n v l h i k ne (omega arith))
+
+  added-home-new : (i : ℕ) → i ≡ n → homeOf (added w n v l h) i ≡ bucketOf w v l h
+  added-home-new i e = rw (e, added-height w n v l h lt, added-low w n v l h lt, added-high w n v l h lt) (bucket-room w (added w n v l h) v l h (added-room w n v l h))
+
+  added-chained : (i : ℕ) → i < suc n → On (added w n v l h) i (at (added w n v l h) (homeOf (added w n v l h) i) BUCKET)
   added-chained i li =
       let u : List ℕ = added w n v l h in
       let b : ℕ = bucketOf w v l h in
       ⊎-elim
-      (λ e.
-      let r : bucketOf u v l h ≡ b = bucket-room w u v l h (added-room w n v l h) in
-      let e0 = added-height w n v l h lt in
-      let e1 = added-low w n v l h lt in
-      let e2 = added-high w n v l h lt in
-      let e4 = added-bucket w n v l h lt in
-      here (cc))
+      (λ e. here (ap (λ (k : ℕ). at u k BUCKET) (added-home-new i e) ∙ added-bucket w n v l h lt ∙ ap (λ (k : ℕ). k + 2) (sym e)))
       (λ old.
-      let x : ℕ = at w i HEIGHT in
-      let y : ℕ = at w i LOW in
-      let z : ℕ = at w i HIGH in
-      let j : ℕ = bucketOf w x y z in
-      let e0 : at u i HEIGHT ≡ x = added-old w n v l h i HEIGHT (omega arith) (omega arith) in
-      let e1 : at u i LOW ≡ y = added-old w n v l h i LOW (omega arith) (omega arith) in
-      let e2 : at u i HIGH ≡ z = added-old w n v l h i HIGH (omega arith) (omega arith) in
-      let r : bucketOf u x y z ≡ j = bucket-room w u x y z (added-room w n v l h) in
-      let ej : bucketOf u (at u i HEIGHT) (at u i LOW) (at u i HIGH) ≡ j = cc in
-      let lj : j < roomOf w = bucket-lt w x y z (omega arith) in
+      let j : ℕ = homeOf w i in
+      let lj : j < roomOf w = bucket-lt w _ _ _ (omega arith) in
       let o : On u i (at w j BUCKET) = on-frame u n (λ k lk. added-old w n v l h k NEXT (omega arith) (omega arith)) (g .next) (g .chained i old) (g .first j lj) in
-      let same : j ≡ b → On u i (at u (bucketOf u (at u i HEIGHT) (at u i LOW) (at u i HIGH)) BUCKET) = λ q.
-      let e4 = added-bucket w n v l h lt in
+      let same : j ≡ b → On u i (at u j BUCKET) = λ q.
+      let e4 : at u j BUCKET ≡ n + 2 = ap (λ (k : ℕ). at u k BUCKET) q ∙ added-bucket w n v l h lt in
       let e3 : at w j BUCKET ≡ at u n NEXT = ap (λ (k : ℕ). at w k BUCKET) q ∙ sym (added-next w n v l h lt) in
-      there n (cc) (rw e3 at o) in
-      let other : (j ≡ b → ⊥) → On u i (at u (bucketOf u (at u i HEIGHT) (at u i LOW) (at u i HIGH)) BUCKET) = λ q.
-      let e3 : at w j BUCKET ≡ at u (bucketOf u (at u i HEIGHT) (at u i LOW) (at u i HIGH)) BUCKET = sym (ap (λ (k : ℕ). at u k BUCKET) ej ∙ added-buckets w n v l h j q) in
-      rw e3 at o in
-      elim (ℕ-discrete j b) [ yes q ↦ same q | no q ↦ other q ])
+      there n e4 (rw e3 at o) in
+      let other : (j ≡ b → ⊥) → On u i (at u j BUCKET) = λ q. rw (added-buckets w n v l h j q) o in
+      let r : On u i (at u j BUCKET) = elim (ℕ-discrete j b) [ yes q ↦ same q | no q ↦ other q ] in
+      rw (added-home i (omega arith)) r)
       (last-or-old i n li)
 
+  added-first-home : (b : ℕ) → b < roomOf (added w n v l h) → Home (added w n v l h) b (at (added w n v l h) b BUCKET)
+  added-first-home b lb i e = elim (ℕ-discrete b (bucketOf w v l h)) [
+    | yes q ↦ added-home-new i (omega (arith, ap (λ (k : ℕ). at (added w n v l h) k BUCKET) q ∙ added-bucket w n v l h lt)) ∙ sym q
+    | no q ↦
+        let old : at w b BUCKET ≡ i + 2 = sym (added-buckets w n v l h b q) ∙ e in
+        let in-table : b < roomOf w = omega (arith, added-room w n v l h) in
+        added-home i (omega (arith, g .first b in-table)) ∙ g .first-home b in-table i old
+  ]
+
+  added-next-home : (j : ℕ) → j < suc n → Home (added w n v l h) (homeOf (added w n v l h) j) (at (added w n v l h) j NEXT)
+  added-next-home j lj i e = ⊎-elim
+      (λ last.
+      let b : ℕ = bucketOf w v l h in
+      let in-table : b < roomOf w = bucket-lt w v l h (omega arith) in
+      let old : at w b BUCKET ≡ i + 2 = sym (ap (λ (k : ℕ). at (added w n v l h) k NEXT) last ∙ added-next w n v l h lt) ∙ e in
+      added-home i (omega (arith, g .first b in-table)) ∙ g .first-home b in-table i old ∙ sym (added-home-new j last))
+      (λ lt-n.
+      let old : at w j NEXT ≡ i + 2 = sym (added-old w n v l h j NEXT (omega arith) (omega arith)) ∙ e in
+      added-home i (omega (arith, g .next j lt-n)) ∙ g .next-home j lt-n i old ∙ sym (added-home j (omega arith)))
+      (last-or-old j n lj)
+
+-- ## The cache
+
 module _ (w : List ℕ) (n v l h : ℕ) (g : Good w n) where
-  added-cached : (i : ℕ) → i < roomOf (added w n v l h) → (op : Op) → at (added w n v l h) i OPERATION ≡ codeOf op → Cached (added w n v l h) (suc n) i op
+  added-cached : (i : ℕ) → i < roomOf (added w n v l h) → (op : Op) → at (added w n v l h) i OPERATION ≡ keyOf (added w n v l h) op → Cached (added w n v l h) (suc n) i op
   added-cached i li op used =
       let u : List ℕ = added w n v l h in
       let e5 : at u i OPERATION ≡ at w i OPERATION = added-cache w n v l h i OPERATION (omega arith) (omega arith) in
       let e6 : at u i LEFT ≡ at w i LEFT = added-cache w n v l h i LEFT (omega arith) (omega arith) in
       let e7 : at u i RIGHT ≡ at w i RIGHT = added-cache w n v l h i RIGHT (omega arith) (omega arith) in
       let e8 : at u i RESULT ≡ at w i RESULT = added-cache w n v l h i RESULT (omega arith) (omega arith) in
-      let k : Cached w n i op = g .cached i (omega (arith, added-room w n v l h)) op (sym e5 ∙ used) in
+      let e9 : at u 0 STAMP ≡ at w 0 STAMP = added-cache w n v l h 0 STAMP (omega arith) (omega arith) in
+      let k : Cached w n i op = g .cached i (omega (arith, added-room w n v l h)) op (omega arith) in
       let t6 = added-keeps w n v l h (at w i LEFT) (k .left) in
       let t7 = added-keeps w n v l h (at w i RIGHT) (k .right) in
       let t8 = added-keeps w n v l h (at w i RESULT) (k .means .id) in
@@ -170,6 +184,9 @@ module _ (w : List ℕ) (a : Head) (v l h : ℕ) (ask : MakeAsks w a v l h) wher
               next = added-branch NEXT _ (added-next w (a .used) v l h lt) (g .first _ (bucket-lt w v l h (omega arith))) (omega arith) (g .next);
               first = added-first w (a .used) v l h g lt;
               chained = added-chained w (a .used) v l h g lt;
+              first-home = added-first-home w (a .used) v l h g lt;
+              next-home = added-next-home w (a .used) v l h g lt;
+              stamped = stamped-same w (added w (a .used) v l h) (added-room w (a .used) v l h) (added-cache w (a .used) v l h) (g .stamped);
               cached = added-cached w (a .used) v l h g;
             }
 

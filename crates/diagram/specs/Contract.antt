@@ -5,6 +5,7 @@ use mathlib.Core.List.{List}
 use mathlib.Core.Logic.{_⊎_}
 use Prim.Native.Nat.{ℕ, _+_, _<_, _≤_, max}
 use lib.Dec.{eqb}
+use Rattle.meaning.specs.Numbers.{nodeWords}
 use Rattle.tree.specs.Tree.{Tree, height, branch, Sub, Inner}
 use Rattle.diagram.specs.declared.Branches.{Branches}
 use Rattle.diagram.specs.declared.Head.{Head}
@@ -17,8 +18,8 @@ use Rattle.diagram.specs.declared.Plan.{Plan}
 use Rattle.diagram.specs.declared.Plan.the-variants.{Known, Split}
 use Rattle.diagram.specs.declared.Sides.{Sides}
 use Rattle.diagram.specs.Operation.{opOf}
-use Rattle.diagram.specs.Words.{roomOf, restOf}
-use Rattle.diagram.specs.Table.{treeAt, glued, combined, Means, Good}
+use Rattle.diagram.specs.Words.{BUCKET, OPERATION, at, roomOf, restOf}
+use Rattle.diagram.specs.Table.{treeAt, glued, combined, Means, Stamped, Silent, Good}
 
 -- ## A tree is put in the table
 
@@ -108,10 +109,14 @@ pub record Splits (w : List ℕ) (n x y : ℕ) (s : Sides) : Type 0 where
   pub first : AreBranches w n x (s .top) (s .a)
   pub second : AreBranches w n y (s .top) (s .b)
 
+-- an operand is no constant
+abbrev pub Open : ℕ → ℕ → Type 0
+Open x y = x < 2 → y < 2 → ⊥
+
 -- what is known of an operation without a table: it holds in every table that is in order
 unfoldable pub Early : (Bool → Bool → Bool) → ℕ → ℕ → Hit → Type 0
 Early op x y (Is r) = (w : List ℕ) (n : ℕ) → Good w n → x < n + 2 → y < n + 2 → Means w n op x y r
-Early op x y Miss = x < 2 → y < 2 → ⊥
+Early op x y Miss = Open x y
 
 -- u leaves the other operand, the other constant takes all, and equal operands are the answer
 pub record Absorbs (op : Bool → Bool → Bool) (u : Bool) : Type 0 where
@@ -156,3 +161,37 @@ pub record FinishAsks (w : List ℕ) (a : Head) (op : Op) (x y : ℕ) (s : Sides
   pub second : y < a .used + 2
   pub slot : s .slot < roomOf w
   pub true : glued w (a .used) (s .top) l h ≡ combined w (a .used) (opOf op) x y
+
+-- ## Nodes are taken back
+
+-- the first n slots of the cache are empty, and all other words as they were
+pub record Wiped (w : List ℕ) (u : List ℕ) (n : ℕ) : Type 0 where
+  pub empty : (i : ℕ) → i < n → at u i OPERATION ≡ 0
+  pub others : (i k : ℕ) → k < nodeWords → (k ≡ OPERATION → ⊥) → at u i k ≡ at w i k
+  pub room : roomOf u ≡ roomOf w
+  pub rest : restOf u ≡ restOf w
+
+-- nothing in the cache counts any more; the nodes and the buckets are as they were
+pub record Renewed (w : List ℕ) (u : List ℕ) : Type 0 where
+  pub stamped : Stamped u
+  pub silent : Silent u
+  pub nodes : (i k : ℕ) → k ≤ BUCKET → at u i k ≡ at w i k
+  pub room : roomOf u ≡ roomOf w
+  pub rest : restOf u ≡ restOf w
+
+-- of the n nodes of w the first m are left, and nothing in the cache counts
+pub record Remain (w : List ℕ) (n : ℕ) (u : List ℕ) (m : ℕ) : Type 0 where
+  pub good : Good u m
+  pub silent : Silent u
+  pub same : (x : ℕ) → x < m + 2 → treeAt u m x ≡ treeAt w n x
+  pub room : roomOf u ≡ roomOf w
+  pub rest : restOf u ≡ restOf w
+
+-- the nodes from `mark` on are taken back: the ids below keep their trees
+pub record Forgets (w : List ℕ) (a : Head) (mark : ℕ) (u : List ℕ) (b : Head) : Type 0 where
+  pub good : Good u mark
+  pub same : (x : ℕ) → x < mark + 2 → treeAt u mark x ≡ treeAt w (a .used) x
+  pub used : b .used ≡ mark
+  pub most : b .most ≡ a .most
+  pub room : roomOf u ≡ roomOf w
+  pub rest : restOf u ≡ restOf w

@@ -2,13 +2,13 @@
 use mathlib.Core.Path.{_≡_}
 use mathlib.Core.Bool.{Bool, true, false}
 use mathlib.Core.List.{List}
-use Prim.Native.Nat.{ℕ, zero, suc, _+_, _<_, _≤_}
+use Prim.Native.Nat.{ℕ, zero, suc, _+_, _*_, _<_, _≤_}
 use lib.Dec.{eqb}
 use Rattle.meaning.specs.Basic.{if_then_else_}
 use Rattle.tree.specs.Tree.{Tree, leaf, node, glue, Reduced, combineTree}
 use Rattle.diagram.specs.declared.Op.{Op}
-use Rattle.diagram.specs.Operation.{opOf, codeOf}
-use Rattle.diagram.specs.Words.{HEIGHT, LOW, HIGH, NEXT, BUCKET, OPERATION, LEFT, RIGHT, RESULT, at, store, roomOf, spread}
+use Rattle.diagram.specs.Operation.{opOf, codeOf, codes, stamps}
+use Rattle.diagram.specs.Words.{HEIGHT, LOW, HIGH, NEXT, BUCKET, OPERATION, LEFT, RIGHT, RESULT, at, store, roomOf, stampOf, spread}
 
 -- the tree of an id in a table of n nodes: 0 and 1 are the constants, i + 2 is node i
 unfoldable pub treeAt : List ℕ → ℕ → ℕ → Tree
@@ -31,10 +31,31 @@ pub record Means (w : List ℕ) (n : ℕ) (op : Bool → Bool → Bool) (a b x :
 unfoldable pub bucketOf : List ℕ → ℕ → ℕ → ℕ → ℕ
 bucketOf w v l h = spread v l h (roomOf w)
 
+-- the bucket of node i
+abbrev pub homeOf : List ℕ → ℕ → ℕ
+homeOf w i = bucketOf w (at w i HEIGHT) (at w i LOW) (at w i HIGH)
+
+-- the id p is of a constant, or of a node of bucket b
+abbrev pub Home : List ℕ → ℕ → ℕ → Type 0
+Home w b p = (i : ℕ) → p ≡ i + 2 → homeOf w i ≡ b
+
 -- the chain from the id p comes to node i
 pub data On (w : List ℕ) (i : ℕ) : ℕ → Type 0 where
   here : {p : ℕ} → p ≡ i + 2 → On w i p
   there : {p : ℕ} → (k : ℕ) → p ≡ k + 2 → On w i (at w k NEXT) → On w i p
+
+-- how the cache writes an operation: its code under the table's stamp
+abbrev pub keyOf : List ℕ → Op → ℕ
+keyOf w op = codes * stampOf w + codeOf op
+
+-- the stamp fits a word beside a code, and no slot of the cache has a later one
+pub record Stamped (w : List ℕ) : Type 0 where
+  pub small : 0 < roomOf w → stampOf w < stamps
+  pub slots : (i : ℕ) → i < roomOf w → at w i OPERATION < codes * stampOf w + codes
+
+-- every slot of the cache is empty or has an earlier stamp: none counts
+unfoldable pub Silent : List ℕ → Type 0
+Silent w = (i : ℕ) → i < roomOf w → at w i OPERATION ≤ codes * stampOf w
 
 -- slot i of the cache holds a true result of an operation
 pub record Cached (w : List ℕ) (n i : ℕ) (op : Op) : Type 0 where
@@ -43,7 +64,7 @@ pub record Cached (w : List ℕ) (n i : ℕ) (op : Op) : Type 0 where
   pub means : Means w n (opOf op) (at w i LEFT) (at w i RIGHT) (at w i RESULT)
 
 -- A table of n nodes in order: branches and chains run to smaller ids, trees are reduced and none is there twice, every node is on the
--- chain of its bucket, and the cache tells the truth.
+-- chain of its bucket and no other node is, and the cache tells the truth under the table's stamp.
 pub record Good (w : List ℕ) (n : ℕ) : Type 0 where
   pub fits : n ≤ roomOf w
   pub low : (i : ℕ) → i < n → at w i LOW < i + 2
@@ -52,8 +73,11 @@ pub record Good (w : List ℕ) (n : ℕ) : Type 0 where
   pub once : (a b : ℕ) → a < n + 2 → b < n + 2 → treeAt w n a ≡ treeAt w n b → a ≡ b
   pub next : (i : ℕ) → i < n → at w i NEXT < i + 2
   pub first : (b : ℕ) → b < roomOf w → at w b BUCKET < n + 2
-  pub chained : (i : ℕ) → i < n → On w i (at w (bucketOf w (at w i HEIGHT) (at w i LOW) (at w i HIGH)) BUCKET)
-  pub cached : (i : ℕ) → i < roomOf w → (op : Op) → at w i OPERATION ≡ codeOf op → Cached w n i op
+  pub chained : (i : ℕ) → i < n → On w i (at w (homeOf w i) BUCKET)
+  pub first-home : (b : ℕ) → b < roomOf w → Home w b (at w b BUCKET)
+  pub next-home : (i : ℕ) → i < n → Home w (homeOf w i) (at w i NEXT)
+  pub stamped : Stamped w
+  pub cached : (i : ℕ) → i < roomOf w → (op : Op) → at w i OPERATION ≡ keyOf w op → Cached w n i op
 
 -- whether node k has these three words
 pub record Matched (w : List ℕ) (k v l h : ℕ) (r : Bool) : Type 0 where
@@ -73,6 +97,10 @@ added w i v l h =
     let b = bucketOf w v l h in
     store (store (store (store (store w i HEIGHT v) i LOW l) i HIGH h) i NEXT (at w b BUCKET)) b BUCKET (i + 2)
 
+-- node i, which is the first of its chain, is taken out of it
+unfoldable pub unlinked : List ℕ → ℕ → List ℕ
+unlinked w i = store w (homeOf w i) BUCKET (at w i NEXT)
+
 -- a result is put in slot i of the cache
 unfoldable pub noted : List ℕ → ℕ → Op → ℕ → ℕ → ℕ → List ℕ
-noted w i op a b r = store (store (store (store w i OPERATION (codeOf op)) i LEFT a) i RIGHT b) i RESULT r
+noted w i op a b r = store (store (store (store w i OPERATION (keyOf w op)) i LEFT a) i RIGHT b) i RESULT r

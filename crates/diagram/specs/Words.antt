@@ -24,7 +24,7 @@ NEXT = 3
 abbrev pub BUCKET : ℕ
 BUCKET = 4
 
--- slot i of the cache: an operation, its two operands, its result; the last word is free for a third operand
+-- slot i of the cache: an operation under a stamp, its two operands, its result
 abbrev pub OPERATION : ℕ
 OPERATION = 5
 
@@ -37,6 +37,10 @@ RIGHT = 7
 abbrev pub RESULT : ℕ
 RESULT = 8
 
+-- the table's stamp in node 0; in the other nodes this word is free for a third operand
+abbrev pub STAMP : ℕ
+STAMP = 9
+
 -- ## Reading and storing
 
 unfoldable pub at : List ℕ → ℕ → ℕ → ℕ
@@ -44,6 +48,9 @@ at w i k = getD w (nodeWords * i + k) 0
 
 unfoldable pub store : List ℕ → ℕ → ℕ → ℕ → List ℕ
 store w i k x = set w (nodeWords * i + k) x
+
+abbrev pub stampOf : List ℕ → ℕ
+stampOf w = at w 0 STAMP
 
 -- how many nodes there is room for, and the words behind the table
 abbrev pub roomOf : List ℕ → ℕ

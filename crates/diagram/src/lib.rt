@@ -5,17 +5,21 @@ ghost use Prim.Native.Nat.{_+_, _≤_, max};
 ghost use Rattle.meaning.specs.Numbers.{maxNodes};
 ghost use Rattle.tree.specs.Tree.{complementTree};
 ghost use Rattle.diagram.specs.Operation.{opOf};
+ghost use Rattle.diagram.specs.Words.{roomOf};
 ghost use Rattle.diagram.specs.Table.{treeAt, glued, combined};
-ghost use Rattle.diagram.specs.Contract.{FinishAsks, CombineAsks, ComplementAsks, Says};
+ghost use Rattle.diagram.specs.Contract.{Open, FinishAsks, CombineAsks, ComplementAsks, Says};
 
 pub mod cache;
+pub mod forget;
 pub mod nodes;
 pub mod start;
 pub mod words;
 
+use cache::early;
 use cache::note;
-use nodes::make;
+use nodes::make_in;
 use start::begin;
+use words::room;
 
 // The table's head: the nodes used, and the greatest count since the head was made.
 pub struct Head {
@@ -100,6 +104,7 @@ pub enum Plan {
 // The last step: the node over the two results, which is put in the cache.
 fn finish(
     t: &mut [u16],
+    n: usize,
     head: Head,
     op: Op,
     a: usize,
@@ -108,10 +113,10 @@ fn finish(
     l: usize,
     h: usize,
 ) -> Made
-    requires { ⌜ FinishAsks (now t) head op a b s l h ⌝ }
+    requires { ⌜ (FinishAsks (now t) head op a b s l h) × (n ≡ roomOf (now t)) ⌝ }
     ensures { λ r. ⌜ Says (now (t .entry)) head (glued (now (t .entry)) (head .used) (s .top) l h) (now (t .exit)) r ⌝ }
 {
-    let made = make(t, head, s.top, l, h);
+    let made = make_in(t, n, head, s.top, l, h);
     let Made::Node(r, _) = made else {
         return made;
     };
@@ -119,24 +124,60 @@ fn finish(
     made
 }
 
+// `combine` where there is no early answer, in a table with room for n nodes. The branches are asked for early answers here, so that these
+// cost no call; the head goes in as two numbers, which stay in registers where a struct would be stored and read back.
+fn combine_from(
+    t: &mut [u16],
+    n: usize,
+    used: usize,
+    most: usize,
+    op: Op,
+    a: usize,
+    b: usize,
+    left: usize,
+) -> Made
+    requires { ⌜ (CombineAsks (now t) (record { used = used; most = most }) a b left) × (Open a b) × (n ≡ roomOf (now t)) ⌝ }
+    ensures { λ r. ⌜ Says (now (t .entry)) (record { used = used; most = most }) (combined (now (t .entry)) used (opOf op) a b) (now (t .exit)) r ⌝ }
+{
+    match begin(t, n, used, op, a, b) {
+        Plan::Known(x) => Made::Node(x, Head { used, most }),
+        Plan::Split(s) => {
+            let low = match early(op, s.a.low, s.b.low) {
+                Hit::Is(x) => Made::Node(x, Head { used, most }),
+                Hit::Miss => combine_from(t, n, used, most, op, s.a.low, s.b.low, left - 1),
+            };
+            let Made::Node(l, after) = low else {
+                return low;
+            };
+            let high = match early(op, s.a.high, s.b.high) {
+                Hit::Is(x) => Made::Node(x, after),
+                Hit::Miss => combine_from(
+                    t,
+                    n,
+                    after.used,
+                    after.most,
+                    op,
+                    s.a.high,
+                    s.b.high,
+                    left - 1,
+                ),
+            };
+            let Made::Node(h, last) = high else {
+                return high;
+            };
+            finish(t, n, last, op, a, b, s, l, h)
+        }
+    }
+}
+
 // The diagram of an operation on two diagrams, of which `left` variable levels remain.
 pub fn combine(t: &mut [u16], head: Head, op: Op, a: usize, b: usize, left: usize) -> Made
     requires { ⌜ CombineAsks (now t) head a b left ⌝ }
     ensures { λ r. ⌜ Says (now (t .entry)) head (combined (now (t .entry)) (head .used) (opOf op) a b) (now (t .exit)) r ⌝ }
 {
-    match begin(t, head.used, op, a, b) {
-        Plan::Known(x) => Made::Node(x, head),
-        Plan::Split(s) => {
-            let low = combine(t, head, op, s.a.low, s.b.low, left - 1);
-            let Made::Node(l, after) = low else {
-                return low;
-            };
-            let high = combine(t, after, op, s.a.high, s.b.high, left - 1);
-            let Made::Node(h, last) = high else {
-                return high;
-            };
-            finish(t, last, op, a, b, s, l, h)
-        }
+    match early(op, a, b) {
+        Hit::Is(x) => Made::Node(x, head),
+        Hit::Miss => combine_from(t, room(t), head.used, head.most, op, a, b, left),
     }
 }
 

@@ -3,7 +3,7 @@ ghost use mathlib.Core.Path.{_≡_};
 ghost use Prim.Native.Nat.{_+_, _<_};
 ghost use Rattle.meaning.specs.Numbers.{maxNodes};
 ghost use Rattle.diagram.specs.Words.{roomOf};
-ghost use Rattle.diagram.specs.Table.{bucketOf, glued, added, Good, Sought, Matched};
+ghost use Rattle.diagram.specs.Table.{bucketOf, glued, added, unlinked, Good, Sought, Matched};
 ghost use Rattle.diagram.specs.Contract.{MakeAsks, Says};
 use crate::Head;
 use crate::Made;
@@ -63,19 +63,32 @@ fn add(t: &mut [u16], i: usize, b: usize, v: usize, l: usize, h: usize)
     put(t, b, BUCKET, i + 2);
 }
 
-// The tree that tests at height v over the trees of l and h.
-pub fn make(t: &mut [u16], head: Head, v: usize, l: usize, h: usize) -> Made
-    requires { ⌜ MakeAsks (now t) head v l h ⌝ }
+// Takes node i out of the chain of its bucket, whose first it is.
+pub fn unlink(t: &mut [u16], i: usize)
+    requires { ⌜ i < roomOf (now t) ⌝ }
+    ensures { λ _. ⌜ now (t .exit) ≡ unlinked (now (t .entry)) i ⌝ }
+{
+    let b = hashed(
+        word(t, i, HEIGHT),
+        word(t, i, LOW),
+        word(t, i, HIGH),
+        room(t),
+    );
+    put(t, b, BUCKET, word(t, i, NEXT));
+}
+
+// The tree that tests at height v over the trees of l and h, in a table with room for n nodes.
+pub fn make_in(t: &mut [u16], n: usize, head: Head, v: usize, l: usize, h: usize) -> Made
+    requires { ⌜ (MakeAsks (now t) head v l h) × (n ≡ roomOf (now t)) ⌝ }
     ensures { λ r. ⌜ Says (now (t .entry)) head (glued (now (t .entry)) (head .used) v l h) (now (t .exit)) r ⌝ }
 {
     if l == h {
         return Made::Node(l, head);
     }
-    let used = head.used;
-    let n = room(t);
     if n == 0 {
         return Made::Full(head);
     }
+    let used = head.used;
     let b = hashed(v, l, h, n);
     let p = find(t, used, b, v, l, h);
     if 2 <= p {
@@ -87,4 +100,12 @@ pub fn make(t: &mut [u16], head: Head, v: usize, l: usize, h: usize) -> Made
     }
     add(t, used, b, v, l, h);
     Made::Node(used + 2, more)
+}
+
+// The tree that tests at height v over the trees of l and h.
+pub fn make(t: &mut [u16], head: Head, v: usize, l: usize, h: usize) -> Made
+    requires { ⌜ MakeAsks (now t) head v l h ⌝ }
+    ensures { λ r. ⌜ Says (now (t .entry)) head (glued (now (t .entry)) (head .used) v l h) (now (t .exit)) r ⌝ }
+{
+    make_in(t, room(t), head, v, l, h)
 }

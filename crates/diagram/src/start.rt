@@ -3,21 +3,20 @@ ghost use mathlib.Core.Path.{_≡_};
 ghost use Prim.Native.Nat.{_+_, _<_, max};
 ghost use Rattle.tree.specs.Tree.{height};
 ghost use Rattle.diagram.specs.Operation.{opOf};
+ghost use Rattle.diagram.specs.Words.{roomOf};
 ghost use Rattle.diagram.specs.Table.{treeAt, Good};
-ghost use Rattle.diagram.specs.Contract.{AreBranches, Splits, Planned};
+ghost use Rattle.diagram.specs.Contract.{AreBranches, Splits, Open, Planned};
 use crate::Branches;
 use crate::Hit;
 use crate::Op;
 use crate::Plan;
 use crate::Sides;
 use crate::cache::code;
-use crate::cache::early;
 use crate::cache::recall;
 use crate::words::HEIGHT;
 use crate::words::HIGH;
 use crate::words::LOW;
 use crate::words::hashed;
-use crate::words::room;
 use crate::words::word;
 
 fn height_of(t: &[u16], used: usize, id: usize) -> usize
@@ -68,16 +67,12 @@ fn split(t: &[u16], used: usize, slot: usize, a: usize, b: usize) -> Sides
     }
 }
 
-// An early answer, a result of the cache, or the branches to go on with.
-pub fn begin(t: &[u16], used: usize, op: Op, a: usize, b: usize) -> Plan
-    requires { ⌜ (Good (now t) used) × (a < used + 2) × (b < used + 2) ⌝ }
+// A result of the cache, or the branches to go on with, in a table with room for n nodes.
+pub fn begin(t: &[u16], n: usize, used: usize, op: Op, a: usize, b: usize) -> Plan
+    requires { ⌜ (Good (now t) used) × (a < used + 2) × (b < used + 2) × (Open a b) × (n ≡ roomOf (now t)) ⌝ }
     ensures { λ r. ⌜ Planned (now (t .entry)) used (opOf op) a b r ⌝ }
 {
-    let answer = early(op, a, b);
-    if let Hit::Is(x) = answer {
-        return Plan::Known(x);
-    }
-    let slot = hashed(code(op), a, b, room(t));
+    let slot = hashed(code(op), a, b, n);
     let known = recall(t, used, slot, op, a, b);
     if let Hit::Is(x) = known {
         return Plan::Known(x);

@@ -26,6 +26,9 @@ pub const RIGHT: usize = 7;
 
 pub const RESULT: usize = 8;
 
+// In node 0 the table's stamp: a slot of the cache counts while its operation is written under the same one.
+pub const STAMP: usize = 9;
+
 // How many nodes there is room for.
 pub fn room(t: &[u16]) -> usize
     ensures { λ r. ⌜ (r ≡ roomOf (now (t .entry))) × (r ≤ maxNodes) × (nodeWords * r ≤ length (now (t .entry))) ⌝ }

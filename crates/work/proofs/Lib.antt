@@ -6,8 +6,8 @@ pub mod Signals
 pub mod Passing
 pub mod Joining
 pub mod Both
-pub mod Present
-pub mod NextTick
+pub mod Round
 pub mod Closing
 pub mod StartList
 pub mod StepList
+pub mod FrontList

@@ -13,6 +13,7 @@ use Rattle.promises.specs.Correspondence.{StartEqual, StepEqual}
 use Rattle.sheet.specs.Stored.{sheetOf, Whole}
 use Rattle.diagram.specs.Words.{roomOf, restOf}
 use Rattle.diagram.specs.declared.Head.{Head}
+use Rattle.diagram.specs.Contract.{Ready, Keeps}
 use Rattle.fill.specs.declared.Worked.{Worked}
 use Rattle.fill.specs.declared.Worked.the-variants.{Done, Over}
 use Rattle.work.specs.declared.Pair.{Pair}
@@ -37,7 +38,7 @@ pub record Alike (p : Pair) : Type 0 where
   pub size : length (p .plain) ≡ 2 * maxSignals
   pub plain : (v : ℕ) → v < joint p → getD (p .plain) v 0 ≡ (if bit (polarity (left p) (right p)) v then 1 else 0)
 
--- A list of so many nodes was worked from an emptied table: it fits, its nodes are counted, and two of n signals have one id
+-- A list of so many nodes was worked, and the table has no others: it fits, its nodes are counted, and two of n signals have one id
 -- exactly when they are the same.
 pub record Fits (count n : ℕ) (Same : ℕ → ℕ → Type 0) (w : List ℕ) (a : Head) (u : List ℕ) (b : Head) (ids : List ℕ) : Type 0 where
   pub fits : count ≤ roomOf w
@@ -63,3 +64,18 @@ StartSays p = ListSays (startCount (left p) (right p)) (joint p) (StartEqual (le
 
 unfoldable pub StepSays : Pair → List ℕ → List ℕ → Head → List ℕ → List ℕ → Worked → Type 0
 StepSays p g = ListSays (stepCount (left p) (right p) g) (joint p) (StepEqual (left p) (right p) g)
+
+-- ## The table that is left, for more to be worked in it
+
+-- a table with a head that has every id of another
+pub record Holds (w : List ℕ) (a : Head) (u : List ℕ) (b : Head) : Type 0 where
+  pub ready : Ready u b
+  pub keeps : Keeps w (a .used) u (b .used)
+
+unfoldable pub HoldsDone : List ℕ → Head → List ℕ → Worked → Type 0
+HoldsDone w a u (Done b) = Holds w a u b
+HoldsDone w a u (Over b) = Unit {0}
+
+unfoldable pub ReadyDone : List ℕ → Worked → Type 0
+ReadyDone u (Done b) = Ready u b
+ReadyDone u (Over b) = Unit {0}

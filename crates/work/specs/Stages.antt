@@ -2,25 +2,24 @@
 use mathlib.Core.Path.{_≡_}
 use mathlib.Core.Bool.{_&&_}
 use mathlib.Core.List.{List, _++_}
-use Prim.Native.Nat.{ℕ}
+use Prim.Native.Nat.{ℕ, _+_, _≤_, _<_, max}
 use lib.ListN.{length}
 use Rattle.meaning.specs.Sheet as paper
-use Rattle.meaning.specs.Joint.{total, variables, Q}
+use Rattle.meaning.specs.Joint.{total, Q}
+use Rattle.meaning.specs.Room.{stepCount}
 use Rattle.tree.specs.Tree.{Tree, combineTree}
 use Rattle.lists.specs.Lists as lists
 use Rattle.diagram.specs.declared.Head.{Head}
-use Rattle.diagram.specs.declared.Made.{Made}
-use Rattle.diagram.specs.declared.Made.the-variants.{Node, Full}
+use Rattle.diagram.specs.Words.{roomOf, restOf}
 use Rattle.diagram.specs.Table.{treeAt}
-use Rattle.diagram.specs.Contract.{Ready, Under}
+use Rattle.diagram.specs.Contract.{Ready}
 use Rattle.fill.specs.declared.Worked.{Worked}
 use Rattle.fill.specs.declared.Worked.the-variants.{Done, Over}
 use Rattle.fill.specs.Work.{PartOf, Gains, Misses, Is, Stand}
 use Rattle.fill.specs.Trees.{mapTrees, equalTrees}
 use Rattle.work.specs.declared.Pair.{Pair}
 use Rattle.work.specs.declared.pass.Moment.{Moment}
-use Rattle.work.specs.declared.pass.Moment.the-variants.{Next}
-use Rattle.work.specs.Lists.{left, right, joint, Alike}
+use Rattle.work.specs.Lists.{left, right, joint, Alike, Exceeds}
 use Rattle.work.specs.Passes.{momentOf, fTree, hTree, Earlier}
 
 -- ## Lists of trees
@@ -36,21 +35,21 @@ module _ (A B : paper.Sheet) where
   unfoldable pub bothTrees : lists.Moment → List Tree
   bothTrees t = fTrees t ++ hTrees t
 
-  -- what the step list has of the present tick: all f, all h, the equalities and products up to Q
-  unfoldable pub nowTrees : List ℕ → List Tree
-  nowTrees g = bothTrees lists.now ++ equalTrees g (hTree A B lists.now) (length g)
+  -- the front of the step list, which no grouping changes: all f and all h now, all f and all h one tick on
+  unfoldable pub frontTrees : List Tree
+  frontTrees = bothTrees lists.now ++ bothTrees lists.next
 
-  -- q times h one tick on
-  unfoldable pub timesTree : Tree → ℕ → Tree
-  timesTree q v = combineTree _&&_ q (hTree A B lists.next v)
+  -- Q of a grouping times h one tick on
+  unfoldable pub timesTree : List ℕ → ℕ → Tree
+  timesTree g v = combineTree _&&_ (lists.tree A B (Q A B g)) (hTree A B lists.next v)
 
-  -- and of the next tick: all f, all h, q times each h
-  unfoldable pub nextTrees : Tree → List Tree
-  nextTrees q = bothTrees lists.next ++ mapTrees (timesTree q) (total A B)
+  -- what a grouping adds: the equalities and products up to Q, and Q times each h one tick on
+  unfoldable pub roundTrees : List ℕ → List Tree
+  roundTrees g = equalTrees g (hTree A B lists.now) (length g) ++ mapTrees (timesTree g) (total A B)
 
   -- the step list of a grouping
   abbrev pub stepTrees : List ℕ → List Tree
-  stepTrees g = nowTrees g ++ nextTrees (lists.tree A B (Q A B g))
+  stepTrees g = frontTrees ++ roundTrees g
 
 -- ## Lists that are worked
 
@@ -95,32 +94,32 @@ unfoldable pub BothSays : Pair → Moment → List ℕ → Head → List ℕ →
 BothSays p t w a u fs hs (Done b) = Both p t w a u b fs hs
 BothSays p t w a u fs hs (Over b) = Misses w a (bothTrees (left p) (right p) (momentOf t)) u b
 
--- ## The step list, the present tick and the next
+-- ## The front of the step list
 
-pub record NowAsks (p : Pair) (w : List ℕ) (a : Head) (g : List ℕ) (places : ℕ) : Type 0 where
-  pub ready : Ready w a
+-- the table has the front and nothing else, and the words of two arrays are the ids of all h now and one tick on
+pub record Front (p : Pair) (u : List ℕ) (b : Head) (h h′ : List ℕ) : Type 0 where
   pub alike : Alike p
-  pub groups : length g ≡ joint p
-  pub sized : places ≡ joint p
+  pub ready : Ready u b
+  pub nodes : (x : ℕ) → 2 ≤ x → x < b .used + 2 → PartOf (treeAt u (b .used) x) (frontTrees (left p) (right p))
+  pub held : Held u (b .used) (frontTrees (left p) (right p))
+  pub now-stand : Stand u (b .used) h 0 (hTrees (left p) (right p) lists.now)
+  pub next-stand : Stand u (b .used) h′ 0 (hTrees (left p) (right p) lists.next)
+  pub now-size : length h ≡ joint p
+  pub next-size : length h′ ≡ joint p
 
--- the present tick is worked: the ids of all f stand in an array, and q is the id of Q
-pub record Present (p : Pair) (g : List ℕ) (w : List ℕ) (a : Head) (u : List ℕ) (b : Head) (fs : List ℕ) (q : ℕ) : Type 0 where
-  pub gains : Gains w a (nowTrees (left p) (right p) g) u b
-  pub held : Held u (b .used) (nowTrees (left p) (right p) g)
-  pub f-stand : Stand u (b .used) fs 0 (fTrees (left p) (right p) lists.now)
-  pub f-size : length fs ≡ joint p
-  pub product : Is u (b .used) q (lists.tree (left p) (right p) (Q (left p) (right p) g))
+-- the front was worked in an emptied table: its nodes are among those of every step list
+pub record FrontDone (p : Pair) (w : List ℕ) (a : Head) (u : List ℕ) (b : Head) (h h′ : List ℕ) : Type 0 where
+  pub front : Front p u b h h′
+  pub counted : (g : List ℕ) → length g ≡ joint p → max (b .most) (stepCount (left p) (right p) g) ≡ max (a .most) (stepCount (left p) (right p) g)
+  pub room : roomOf u ≡ roomOf w
+  pub rest : restOf u ≡ restOf w
 
-unfoldable pub NowSays : Pair → List ℕ → List ℕ → Head → List ℕ → List ℕ → Made → Type 0
-NowSays p g w a u fs (Node q b) = Present p g w a u b fs q
-NowSays p g w a u fs (Full b) = Misses w a (nowTrees (left p) (right p) g) u b
+-- or every step list counts more nodes than there is room for
+unfoldable pub FrontSays : Pair → List ℕ → Head → List ℕ → List ℕ → List ℕ → Worked → Type 0
+FrontSays p w a u h h′ (Done b) = FrontDone p w a u b h h′
+FrontSays p w a u h h′ (Over b) = (g : List ℕ) → length g ≡ joint p → Exceeds (stepCount (left p) (right p) g) w u
 
--- q is the id of the product of the present tick
-pub record NextAsks (p : Pair) (w : List ℕ) (a : Head) (q : ℕ) (now : List ℕ) (places : ℕ) : Type 0 where
-  pub f-asks : JointAsks p Next w a now places
-  pub factor : Under w (a .used) q (variables (left p) (right p))
+-- ## What a grouping adds to it
 
-abbrev pub NextSays : Pair → ℕ → List ℕ → Head → List ℕ → List ℕ → Worked → Type 0
-NextSays p q w a u ids z =
-    let product = treeAt w (a .used) q in
-    ListFills w a (nextTrees (left p) (right p) product) (timesTree (left p) (right p) product) (joint p) u ids z
+abbrev pub RoundSays : Pair → List ℕ → List ℕ → Head → List ℕ → List ℕ → Worked → Type 0
+RoundSays p g w a u ids z = ListFills w a (roundTrees (left p) (right p) g) (timesTree (left p) (right p) g) (joint p) u ids z

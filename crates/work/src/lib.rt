@@ -4,15 +4,17 @@ ghost use Prim.Native.Nat.{_+_, _≤_};
 ghost use lib.ListN.{length};
 ghost use Rattle.meaning.specs.Numbers.{maxInputs, maxRegisters};
 ghost use Rattle.meaning.specs.Room.{cleared};
+ghost use Rattle.diagram.specs.Contract.{Ready};
 ghost use Rattle.fill.specs.Work.{Fills};
-ghost use Rattle.work.specs.Lists.{left, right, joint, Alike, StartSays, StepSays};
+ghost use Rattle.work.specs.Lists.{left, right, joint, Alike, StartSays, StepSays, HoldsDone, ReadyDone};
 ghost use Rattle.work.specs.Passes.{momentOf};
-ghost use Rattle.work.specs.Stages.{fTrees, JointAsks, BothAsks, BothSays, NowAsks, NowSays, NextAsks, NextSays};
+ghost use Rattle.work.specs.Stages.{fTrees, JointAsks, BothAsks, BothSays, Front, FrontSays};
 
 mod pass;
 
 use diagram::Head;
 use diagram::Made;
+use diagram::forget::forget;
 use diagram::words::clear;
 use fill::Worked;
 use fill::put_equals;
@@ -86,40 +88,7 @@ fn put_both(
     put_normals(t, after, &plain[..n], f, h, left)
 }
 
-// The step list up to Q: all f and all h now, and the equalities of g with their running product, whose id is the answer. f keeps the ids
-// of all f.
-fn put_now(t: &mut [u16], head: Head, p: Pair, g: &[u16], f: &mut [u16]) -> Made
-    requires { ⌜ NowAsks p (now t) head (now g) (length (now f)) ⌝ }
-    ensures { λ z. ⌜ NowSays p (now (g .entry)) (now (t .entry)) head (now (t .exit)) (now (f .exit)) z ⌝ }
-{
-    let n = f.len();
-    let none = [0u16; 1];
-    let mut h = [0u16; Sheet::JOINT];
-    let both = put_both(t, head, p, Moment::Now, &none, f, &mut h[..n]);
-    let left = levels(p.a.registers, p.b.registers, p.a.inputs);
-    match both {
-        Worked::Over(full) => Made::Full(full),
-        Worked::Done(after) => put_equals(t, after, g, &h[..n], left),
-    }
-}
-
-// The rest of it: all f and all h one tick on, and q times each h, where `from` has the ids of all f now.
-fn put_next(t: &mut [u16], head: Head, p: Pair, q: usize, from: &[u16], ids: &mut [u16]) -> Worked
-    requires { ⌜ NextAsks p (now t) head q (now from) (length (now ids)) ⌝ }
-    ensures { λ z. ⌜ NextSays p q (now (t .entry)) head (now (t .exit)) (now (ids .exit)) z ⌝ }
-{
-    let n = ids.len();
-    let mut f = [0u16; Sheet::JOINT];
-    let mut h = [0u16; Sheet::JOINT];
-    let both = put_both(t, head, p, Moment::Next, from, &mut f[..n], &mut h[..n]);
-    let Worked::Done(after) = both else {
-        return both;
-    };
-    let left = levels(p.a.registers, p.b.registers, p.a.inputs);
-    put_times(t, after, q, &h[..n], ids, left)
-}
-
-// Each list starts from an emptied table.
+// The lent table may hold anything.
 fn emptied(t: &mut [u16], head: Head) -> Head
     ensures { λ r. ⌜ (now (t .exit) ≡ cleared (now (t .entry))) × (r .used ≡ 0) × (r .most ≡ head .most) ⌝ }
 {
@@ -130,7 +99,7 @@ fn emptied(t: &mut [u16], head: Head) -> Head
 // The start list: all f in the initial state, then all h, whose ids are put.
 pub fn start_list(t: &mut [u16], head: Head, p: Pair, ids: &mut [u16]) -> Worked
     requires { ⌜ Alike p × (length (now ids) ≡ joint p) ⌝ }
-    ensures { λ z. ⌜ StartSays p (now (t .entry)) head (now (t .exit)) (now (ids .exit)) z ⌝ }
+    ensures { λ z. ⌜ StartSays p (now (t .entry)) head (now (t .exit)) (now (ids .exit)) z × ReadyDone (now (t .exit)) z ⌝ }
 {
     let n = ids.len();
     let none = [0u16; 1];
@@ -139,17 +108,41 @@ pub fn start_list(t: &mut [u16], head: Head, p: Pair, ids: &mut [u16]) -> Worked
     put_both(t, empty, p, Moment::Start, &none, &mut f[..n], ids)
 }
 
-// The step list of a grouping g, ending in Q times each h one tick on, whose ids are put.
-pub fn step_list(t: &mut [u16], head: Head, p: Pair, g: &[u16], ids: &mut [u16]) -> Worked
-    requires { ⌜ Alike p × (length (now g) ≡ joint p) × (length (now ids) ≡ joint p) ⌝ }
-    ensures { λ z. ⌜ StepSays p (now (g .entry)) (now (t .entry)) head (now (t .exit)) (now (ids .exit)) z ⌝ }
+// The front of the step list, which no grouping changes: all f and all h now, then one tick on. The ids of all h are put.
+pub fn front_list(t: &mut [u16], head: Head, p: Pair, h: &mut [u16], h_next: &mut [u16]) -> Worked
+    requires { ⌜ Alike p × Ready (now t) head × (length (now h) ≡ joint p) × (length (now «h_next») ≡ joint p) ⌝ }
+    ensures { λ z. ⌜ FrontSays p (now (t .entry)) head (now (t .exit)) (now (h .exit)) (now («h_next» .exit)) z ⌝ }
 {
-    let n = ids.len();
+    let n = h.len();
+    let none = [0u16; 1];
     let mut f = [0u16; Sheet::JOINT];
-    let empty = emptied(t, head);
-    let now = put_now(t, empty, p, g, &mut f[..n]);
-    let Made::Node(q, after) = now else {
-        return worked_of(now);
+    let mut f_next = [0u16; Sheet::JOINT];
+    let empty = forget(t, head, 0);
+    let now = put_both(t, empty, p, Moment::Now, &none, &mut f[..n], h);
+    let Worked::Done(after) = now else {
+        return now;
     };
-    put_next(t, after, p, q, &f[..n], ids)
+    put_both(t, after, p, Moment::Next, &f[..n], &mut f_next[..n], h_next)
+}
+
+// The step list of a grouping g, worked on from its front: the equalities with their running product, which ends in Q, and Q times each h
+// one tick on, whose ids are put.
+pub fn step_list(
+    t: &mut [u16],
+    head: Head,
+    p: Pair,
+    g: &[u16],
+    h: &[u16],
+    h_next: &[u16],
+    ids: &mut [u16],
+) -> Worked
+    requires { ⌜ Front p (now t) head (now h) (now «h_next») × (length (now g) ≡ joint p) × (length (now ids) ≡ joint p) ⌝ }
+    ensures { λ z. ⌜ StepSays p (now (g .entry)) (now (t .entry)) head (now (t .exit)) (now (ids .exit)) z × HoldsDone (now (t .entry)) head (now (t .exit)) z ⌝ }
+{
+    let left = levels(p.a.registers, p.b.registers, p.a.inputs);
+    let product = put_equals(t, head, g, h, left);
+    let Made::Node(q, after) = product else {
+        return worked_of(product);
+    };
+    put_times(t, after, q, h_next, ids, left)
 }

@@ -35,8 +35,17 @@ fn check_files(t: &mut [u16], files: Files, n: usize) -> Answer
 {
     let classes = files.classes;
     let mut ids = places();
+    let mut h = places();
+    let mut h_next = places();
     let pair = files.pair;
-    check_pair(t, pair, &classes[..n], &mut ids[..n])
+    check_pair(
+        t,
+        pair,
+        &classes[..n],
+        &mut ids[..n],
+        &mut h[..n],
+        &mut h_next[..n],
+    )
 }
 
 // A, B, UNLIKE, grouping, then the rest. The table comes back zeroed, whatever is answered.
@@ -63,6 +72,8 @@ fn refine_files(t: &mut [u16], files: Files, n: usize, result: &mut [u8]) -> Ans
     let mut g = places();
     let mut ids = places();
     let mut next = places();
+    let mut h = places();
+    let mut h_next = places();
     let pair = files.pair;
     let answer = refine_pair(
         t,
@@ -71,6 +82,8 @@ fn refine_files(t: &mut [u16], files: Files, n: usize, result: &mut [u8]) -> Ans
         &mut g[..n],
         &mut ids[..n],
         &mut next[..n],
+        &mut h[..n],
+        &mut h_next[..n],
     );
     if verdict(answer) {
         write_classes(&g[..n], result);

@@ -4,26 +4,29 @@ use Prim.Native.Nat.{_-_}
 use native.Mathlib.Omega.{arith}
 use borrow.Author.Needs.{needs}
 use lib.ListN.{length}
+use Rattle.correspond.proofs.Pairing.{few-signals}
 use Rattle.correspond.proofs.Settling.{Settling, settling-none, settling-next, settling-stays, settling-over, settling-past}
 use Rattle.correspond.proofs.settle.Statement.{statement}
 use Rattle.correspond.proofs.settle.Tie as tie
 
 abbrev Inv-loop : tie.InvT-loop
-Inv-loop t₀ p g₀ ids₀ next₀ n hd₀ r₀ t g ids next hd r =
-    Settling p g₀ t₀ hd₀ t g hd r × ((length t ≡ length t₀) × (length ids ≡ length ids₀) × (length next ≡ length next₀))
+Inv-loop t₀ p g₀ ids₀ next₀ h h-next n hd₀ r₀ t g ids next hd r =
+    Settling p h h-next g₀ t₀ hd₀ t g hd r × ((length t ≡ length t₀) × (length ids ≡ length ids₀) × (length next ≡ length next₀))
 
 abbrev μ-loop : tie.MeasureT-loop
-μ-loop t₀ p g₀ ids₀ next₀ n hd₀ r₀ t g ids next hd r = n - r
+μ-loop t₀ p g₀ ids₀ next₀ h h-next n hd₀ r₀ t g ids next hd r = n - r
 
 loop-holds : tie.Need-loop-holds Inv-loop μ-loop
-loop-holds c = (settling-none _ _ _ _, (refl, refl, refl))
+loop-holds c =
+    let start = c .before .before .before .before .before .before in
+    (settling-none _ _ _ _ _ _ (start .pre .3), (refl, refl, refl))
 
 one-round-requires : tie.Need-one-round-requires Inv-loop μ-loop
 one-round-requires c κs =
     let loop = c .before .before .before .before .before in
-    let start = loop .before .before .before .before .before in
+    let start = loop .before .before .before .before .before .before .before in
     let ok = start .pre .0 in
-    (record { alike = ok .alike; some = ok .some; outputs = ok .outputs; size = loop .loop .inv .0 .size ∙ ok .size }, loop .loop .inv .1 .1 ∙ start .pre .1, loop .loop .inv .1 .2 ∙ start .pre .2)
+    (record { alike = ok .alike; some = ok .some; outputs = ok .outputs; size = loop .loop .inv .0 .size ∙ ok .size }, loop .loop .inv .1 .1 ∙ start .pre .1, loop .loop .inv .1 .2 ∙ start .pre .2, loop .loop .inv .0 .front)
 
 enum-known-round : tie.Need-enum-known-round Inv-loop μ-loop
 enum-known-round c = search needs
@@ -44,8 +47,7 @@ returns : tie.Need-returns Inv-loop μ-loop
 returns c =
     let call = c .before .before .before .before .before .before .before .before .before .before .before in
     let loop = call .before .before .before .before .before .before in
-    let start = loop .before .before .before .before .before in
-    settling-stays _ _ _ _ _ _ _ _ (loop .loop .inv .0) _ _ _ (call .one-round .ensures) _ (c .before .round .given .1)
+    settling-stays _ _ _ _ _ _ _ _ _ _ (loop .loop .inv .0) _ _ _ (call .one-round .ensures) _ (c .before .round .given .1)
 
 enum-told : tie.Need-enum-told Inv-loop μ-loop
 enum-told c = search needs
@@ -66,14 +68,17 @@ returns-2 : tie.Need-returns-2 Inv-loop μ-loop
 returns-2 c =
     let call = c .before .before .before .before .before .before .before .before .before .before in
     let loop = call .before .before .before .before .before .before in
-    let start = loop .before .before .before .before .before in
-    settling-over _ _ _ _ _ _ _ _ (loop .loop .inv .0) _ _ _ (call .one-round .ensures) (start .pre .0 .some) (c .enum-told .given .1)
+    let start = loop .before .before .before .before .before .before .before in
+    settling-over _ _ _ _ _ _ _ _ _ _ (loop .loop .inv .0) _ _ _ (call .one-round .ensures) (start .pre .0 .some) (c .enum-told .given .1)
 
 enum-known-round-2 : tie.Need-enum-known-round-2 Inv-loop μ-loop
 enum-known-round-2 c = search needs
 
 add-r : tie.Need-add-r Inv-loop μ-loop
-add-r c = search needs
+add-r c =
+    let body = c .before .before .before .before .before .before .before .before .before .before .before .before .before .before .before .before in
+    let start = body .before .before .before .before .before .before .before .before in
+    omega (arith, body .loop-test .taken, few-signals _ _ (start .pre .0))
 
 loop-less : tie.Need-loop-less Inv-loop μ-loop
 loop-less c = let body = c .before .before .before .before .before .before .before .before .before .before .before .before .before .before .before .before in omega (arith, body .loop-test .taken)
@@ -82,8 +87,8 @@ loop-again : tie.Need-loop-again Inv-loop μ-loop
 loop-again c =
     let call = c .before .before .before .before .before .before .before .before .before .before .before in
     let loop = call .before .before .before .before .before .before in
-    let start = loop .before .before .before .before .before in (
-      settling-next _ _ _ _ _ _ _ _ (loop .loop .inv .0) _ _ _ (call .one-round .ensures) (start .pre .0 .some) (start .pre .0 .size) _ (c .before .round2 .given .1),
+    let start = loop .before .before .before .before .before .before .before in (
+      settling-next _ _ _ _ _ _ _ _ _ _ (loop .loop .inv .0) _ _ _ (call .one-round .ensures) (start .pre .0 .some) (start .pre .0 .size) _ (c .before .round2 .given .1),
       (call .one-round .kept .0 ∙ loop .loop .inv .1 .0, call .one-round .kept .1 .1 .1 .1 .0 ∙ loop .loop .inv .1 .1, call .one-round .kept .1 .1 .1 .1 .1 .0 ∙ loop .loop .inv .1 .2),
     )
 
@@ -102,8 +107,8 @@ same-length-12 c = c .before .loop .inv .1 .2
 returns-3 : tie.Need-returns-3 Inv-loop μ-loop
 returns-3 c =
     let loop = c .before in
-    let start = loop .before .before .before .before .before in
-    settling-past _ _ _ _ _ _ _ _ (loop .loop .inv .0) (start .pre .0 .some) (start .pre .0 .size) (omega (arith, c .loop-test .left))
+    let start = loop .before .before .before .before .before .before .before in
+    settling-past _ _ _ _ _ _ _ _ _ _ (loop .loop .inv .0) (start .pre .0 .some) (start .pre .0 .size) (omega (arith, c .loop-test .left))
 
 pub settle-spec : {M : Type 1} → statement M
 settle-spec =
