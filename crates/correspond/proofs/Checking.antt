@@ -1,17 +1,13 @@
 -- What check comes to on two sheets and a grouping, stage by stage. Assumes nothing.
-use mathlib.Core.Path.{_≡_, refl, sym, _∙_}
-use mathlib.Core.Bool.{Bool, true, false}
+use mathlib.Core.Path.{_≡_}
 use mathlib.Core.List.{List}
 use Prim.Native.Nat.{ℕ, _≤_, _<_, max}
-use native.Mathlib.Omega.{arith}
-use lib.Dec.{ltb}
 use borrow.Author.Tests.{lt-ltb, le-ltb}
-use Rattle.meaning.specs.Basic.{if_then_else_}
 use Rattle.meaning.specs.Numbers.{NO-ROOM, no-file, START, STEP}
 use Rattle.meaning.specs.Sheet.{Sheet}
 use Rattle.meaning.specs.Joint.{total, startFault, stepFault}
 use Rattle.meaning.specs.Room.{startCount, stepCount}
-use Rattle.meaning.specs.Answer.{Answer, undecided, refusal, outputsVerdict, checkVerdict}
+use Rattle.meaning.specs.Answer.{undecided, refusal, outputsVerdict, checkVerdict}
 
 module _ (N : ℕ) (A B : Sheet) (g : List ℕ) where
   pub out-at-start : N < startCount A B → checkVerdict N A B g ≡ refusal NO-ROOM no-file 0

@@ -2,19 +2,17 @@
 use mathlib.Core.Path.{_≡_, refl, sym, ap, _∙_}
 use mathlib.Core.Bool.{Bool, true, false, not, _&&_, Bool·beq}
 use mathlib.Core.List.{List, map}
-use Prim.Native.Nat.{ℕ, _+_, _*_, _≤_, _<_}
+use Prim.Native.Nat.{ℕ, _+_, _≤_, _<_}
 use native.Mathlib.Omega.{arith}
 use lib.ListN.{length, getD, List·getD-map}
-use lib.Dec.{eqb, ltb}
-use borrow.Author.Tests.{eqb-true, eq-eqb, ltb-true, lt-ltb, le-ltb}
-use Rattle.meaning.specs.Basic.{if_then_else_, bit, leastFrom}
-use Rattle.meaning.specs.Numbers.{maxSignals}
+use lib.Dec.{eqb}
+use borrow.Author.Tests.{lt-ltb, le-ltb}
+use Rattle.meaning.specs.Basic.{if_then_else_, bit}
 use Rattle.meaning.specs.Sheet as paper
 use Rattle.meaning.specs.Joint.{class, total, polarity, outA, outB, paired, outputFault}
 use Rattle.meaning.specs.Answer.{outputsVerdict}
-use Rattle.laws.proofs.Basic.{bool-iff, beq-eq, eq-beq}
 use Rattle.sheet.specs.declared.Sheet.{Sheet}
-use Rattle.sheet.specs.Stored.{sheetOf, outputOf, outputAt, noOutput, Whole}
+use Rattle.sheet.specs.Stored.{sheetOf, outputOf, outputAt, Whole}
 use Rattle.sheet.proofs.Whole.{length-signals, length-outputs, output-at}
 use Rattle.answer.specs.declared.Answer.the-variants.{Equivalent, Undecided}
 use Rattle.answer.specs.declared.Reason.the-variants.{Outputs}
@@ -22,7 +20,7 @@ use Rattle.answer.specs.Meant.{reasonOf, answerOf}
 use Rattle.groups.specs.ByIds.{sameBy}
 use Rattle.groups.proofs.Least.{least-found, least-all, least-ext}
 use Rattle.work.specs.declared.Pair.{Pair}
-use Rattle.work.specs.Lists.{left, right, joint, Alike}
+use Rattle.work.specs.Lists.{left, right, joint}
 use Rattle.correspond.specs.Verdicts.{Shown, apartBy, unpairedBy, Grouped}
 
 module _ (a b : Sheet) (plain g : List ℕ) (s : Shown a b plain g) (i : ℕ) (l : i < a .outputs) where

@@ -1,10 +1,9 @@
 -- The marked cases, as one table, and the statement that each call has the outcome that the table says. Assumes nothing.
-use Prim.Native.Nat.{ℕ, zero, suc, _+_, _*_}
+use Prim.Native.Nat.{ℕ, _+_, _*_}
 use mathlib.Core.Path.{_≡_, refl}
-use mathlib.Core.Bool.{Bool, true, false}
 use mathlib.Core.List.{List, [], _∷_, _++_, map}
-use lib.ListN.{length, replicate}
-use Rattle.meaning.specs.Numbers.{SHORT, AFTER, NO-OUTPUT, DANGLING, NO-ROOM, numberOf, file-A, no-file, fileNumber, START, STEP, OUTPUTS, reasonNumber}
+use lib.ListN.{replicate}
+use Rattle.meaning.specs.Numbers.{SHORT, AFTER, NO-OUTPUT, DANGLING, NO-ROOM, file-A, no-file, START, STEP, OUTPUTS}
 use Rattle.meaning.specs.Basic.{upFrom, leastFrom, sameList, keep, concatMap, pairwise, allTrue, bitsOf, fromBits, every}
 use Rattle.meaning.specs.Sheet.{isInput, isRegister, inputs, registers, nothingYet, bodyOf, unknownKind, tooMany, notLower, firstFault, faultOf, signalOf, add, named, ending, readFrom, readSheet, readClassesFrom, readClasses, gateKind, signalBytes, outputBytes, sheetBytes, classBytes}
 use Rattle.meaning.specs.Tick.{gateValue, valuesFrom, values, initial, sources, taken, shown, outputsFrom, outputsOf}

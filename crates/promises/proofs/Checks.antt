@@ -1,22 +1,21 @@
 -- What check answers on two sheets and a grouping, exactly. Assumes nothing.
-use mathlib.Core.Path.{_≡_, refl, sym, ap, _∙_}
-use mathlib.Core.Bool.{Bool, true, false, not}
+use mathlib.Core.Path.{_≡_, sym, _∙_}
+use mathlib.Core.Bool.{true, false}
 use mathlib.Core.List.{List}
 use mathlib.Core.Logic.{_↔_}
-use Prim.Native.Nat.{ℕ, _+_, _≤_, _<_, max}
+use Prim.Native.Nat.{ℕ, _<_}
 use native.Mathlib.Omega.{arith}
 use native.Mathlib.Nat.{le-of-eq}
 use lib.ListN.{length}
 use lib.Dec.{ltb}
 use borrow.Author.Tests.{ltb-true, ltb-false, lt-ltb, le-ltb}
-use Rattle.meaning.specs.Basic.{if_then_else_}
-use Rattle.meaning.specs.Numbers.{NO-ROOM, no-file, START, STEP, OUTPUTS}
+use Rattle.meaning.specs.Numbers.{OUTPUTS}
 use Rattle.meaning.specs.Sheet.{Sheet}
 use Rattle.meaning.specs.Joint.{class, first, total, startSame, stepSame, startFault, stepFault, paired, outputFault}
 use Rattle.meaning.specs.Room.{startCount, stepCount}
-use Rattle.meaning.specs.Answer.{Answer, equivalent, undecided, refusal, outputsVerdict, checkVerdict}
+use Rattle.meaning.specs.Answer.{Answer, equivalent, undecided, outputsVerdict, checkVerdict}
 use Rattle.laws.proofs.Basic.{case-bool}
-use Rattle.promises.specs.Correspondence.{Together, StartEqual, StepEqual, Start, Step, PairedAt, PairedOutputs}
+use Rattle.promises.specs.Correspondence.{StartEqual, StepEqual, Start, Step, PairedAt, PairedOutputs}
 use Rattle.promises.specs.Calls.{LeastFailing, StartHolds, StepHolds, CheckSays, no-start-room, no-start, no-step-room, no-step, unpaired, all-hold}
 use Rattle.promises.proofs.Tests.{first-is, first-together, within-classes, start-iff, step-iff, paired-iff}
 use Rattle.promises.proofs.Least.{leastBad, bad-fails, none-fails, fails-bad, all-none}

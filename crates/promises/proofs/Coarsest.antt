@@ -2,10 +2,9 @@
 use mathlib.Core.Path.{_≡_, subst}
 use mathlib.Core.List.{List}
 use Prim.Native.Nat.{ℕ, zero, suc, _<_}
-use lib.ListN.{length}
 use Rattle.meaning.specs.Sheet.{Sheet}
 use Rattle.meaning.specs.Joint.{class, total, T, rounds}
-use Rattle.promises.specs.Correspondence.{Together, StartEqual, Conforms, StepEqual, Start, Step, Correspondence, Inside, CoarsestInside}
+use Rattle.promises.specs.Correspondence.{Together, Conforms, StepEqual, Start, Step, Correspondence, Inside, CoarsestInside}
 use Rattle.promises.proofs.Equations.{equation-2, equation-3}
 use Rattle.promises.proofs.Rounds.{T-finer, rounds-fixed}
 

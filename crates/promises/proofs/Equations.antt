@@ -1,6 +1,5 @@
 -- Equations 2 and 3: when two signals share a class of T_0, and of T_(i+1). Assumes nothing.
 use mathlib.Core.Path.{_≡_, refl, sym, _∙_}
-use mathlib.Core.Bool.{Bool, true}
 use mathlib.Core.List.{List}
 use mathlib.Core.Logic.{_↔_}
 use Prim.Native.Nat.{ℕ, zero, suc, _<_}

@@ -1,16 +1,14 @@
 -- What a call on files answers, exactly, from what it answers when the files are read. Assumes nothing.
-use mathlib.Core.Path.{_≡_, refl, sym, _∙_}
-use mathlib.Core.Bool.{Bool, true, false, not}
+use mathlib.Core.Path.{_≡_, refl, sym}
+use mathlib.Core.Bool.{true}
 use mathlib.Core.List.{List}
 use Prim.Native.Nat.{ℕ}
 use lib.ListN.{length}
 use lib.Dec.{eqb}
 use borrow.Author.Tests.{eqb-true, eqb-false, eq-eqb, ne-eqb}
-use Rattle.meaning.specs.Basic.{if_then_else_}
-use Rattle.meaning.specs.Numbers.{UNLIKE, no-file}
 use Rattle.meaning.specs.Sheet.{Sheet, Read, refused, value, inputs, readSheet, readClasses}
 use Rattle.meaning.specs.Joint.{total}
-use Rattle.meaning.specs.Answer.{Answer, refusal, Outcome, silent, refuse, orRefuse, withFiles}
+use Rattle.meaning.specs.Answer.{Answer, Outcome, silent, refuse, orRefuse, withFiles}
 use Rattle.laws.proofs.Basic.{case-bool}
 use Rattle.promises.specs.Calls.{Files, FilesSay, a-refused, b-refused, unlike-inputs, unlike-outputs, p-refused, onward}
 

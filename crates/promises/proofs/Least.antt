@@ -1,5 +1,5 @@
 -- The least that fails a test is the least that the tested proposition fails of. Assumes nothing.
-use mathlib.Core.Path.{_≡_, refl, sym, _∙_}
+use mathlib.Core.Path.{_≡_, refl, sym}
 use mathlib.Core.Bool.{Bool, true, false, not}
 use mathlib.Core.Logic.{_↔_}
 use Prim.Native.Nat.{ℕ, _≤_, _<_}
@@ -7,7 +7,7 @@ use native.Mathlib.Omega.{arith}
 use lib.Dec.{ltb}
 use borrow.Author.Tests.{ltb-true, ltb-false, not-true, not-false}
 use Rattle.meaning.specs.Basic.{leastFrom}
-use Rattle.laws.proofs.Basic.{case-bool, true-false, Least, least-is}
+use Rattle.laws.proofs.Basic.{case-bool, true-false, least-is}
 use Rattle.promises.specs.Calls.{LeastFailing}
 
 not-of : (b : Bool) → b ≡ true → not b ≡ false

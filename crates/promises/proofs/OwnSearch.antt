@@ -1,17 +1,17 @@
 -- Demand 3: what EQUIVALENT means, and that the search from one class finds whatever any proposal would. Assumes nothing.
 use mathlib.Core.Path.{_≡_, refl, sym, _∙_, subst, subst₂}
 use mathlib.Core.List.{List}
-use Prim.Native.Nat.{ℕ, zero, suc, _+_, _≤_, _<_}
+use Prim.Native.Nat.{ℕ, zero, suc, _<_}
 use native.Mathlib.Omega.{arith}
 use lib.ListN.{length, getD, replicate, length-replicate}
-use Rattle.meaning.specs.Numbers.{Refusal, File, OUT, NO-ROOM, no-file, Reason}
-use Rattle.meaning.specs.Sheet.{Sheet, Read, value, inputs, readSheet, readClasses, classBytes}
+use Rattle.meaning.specs.Numbers.{Refusal, File, Reason}
+use Rattle.meaning.specs.Sheet.{Sheet, Read, value, inputs, readSheet}
 use Rattle.meaning.specs.Joint.{class, total, outA, outB, T, rounds}
 use Rattle.meaning.specs.Room.{capacity}
-use Rattle.meaning.specs.Answer.{Answer, equivalent, undecided, refusal, checkAnswer, refineAnswer}
-use Rattle.promises.specs.Correspondence.{SameOutputs, Together, Correspondence, PairedAt, PairedOutputs, Inside, CoarsestInside}
+use Rattle.meaning.specs.Answer.{Answer, equivalent, undecided, refusal, refineAnswer}
+use Rattle.promises.specs.Correspondence.{Correspondence, PairedAt, PairedOutputs, Inside}
 use Rattle.promises.specs.Proper.{OutputsName}
-use Rattle.promises.specs.Calls.{LeastFailing, StartHolds, StepHolds, Files, FilesSay, a-refused, b-refused, unlike-inputs, unlike-outputs, p-refused, onward, CheckSays, RefineSays, Worked, too-small, no-start-room, no-start, no-step-room, no-step, unpaired, all-hold, SameBoards, ProposalAccepted, by-check, by-refine, oneClass, AcceptsInRoom, accepts, no-space, no-nodes}
+use Rattle.promises.specs.Calls.{Files, FilesSay, a-refused, b-refused, unlike-inputs, unlike-outputs, p-refused, onward, CheckSays, RefineSays, too-small, no-start-room, no-start, no-step-room, no-step, unpaired, all-hold, SameBoards, ProposalAccepted, by-check, by-refine, oneClass, AcceptsInRoom, accepts, no-space, no-nodes}
 use Rattle.promises.proofs.Sound.{same-outputs}
 use Rattle.promises.proofs.Coarsest.{T-coarsest}
 use Rattle.promises.proofs.Refines.{rounds-only, refine-says}

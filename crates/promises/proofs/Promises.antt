@@ -2,7 +2,7 @@
 -- The words are those of `meaning` and of this crate's specs/: Reading, Correspondence, Calls. Assumes nothing.
 use mathlib.Core.Path.{_≡_, sym, ap, _∙_}
 use mathlib.Core.Bool.{true}
-use mathlib.Core.List.{List, [], _++_}
+use mathlib.Core.List.{List}
 use mathlib.Core.Logic.{_↔_}
 use Prim.Native.Nat.{ℕ, suc, _+_, _*_, _≤_, _<_}
 use lib.ListN.{length, take, drop, replicate}
@@ -10,13 +10,12 @@ use Rattle.meaning.specs.Numbers.{Refusal, File, nodeWords}
 use Rattle.meaning.specs.Sheet.{Sheet, Read, refused, value, readSheet, readClasses, sheetBytes, classBytes}
 use Rattle.meaning.specs.Joint.{class, grouping, total, startSame, stepSame, startFault, stepFault, paired, T, rounds}
 use Rattle.meaning.specs.Room.{capacity, cleared}
-use Rattle.meaning.specs.Answer.{Answer, equivalent, wrote, refusal, rowOf, Outcome, resultAfter, writeAnswer, runAnswer, checkAnswer, refineAnswer}
+use Rattle.meaning.specs.Answer.{Answer, refusal, rowOf, Outcome, resultAfter, writeAnswer, runAnswer, checkAnswer, refineAnswer}
 use Rattle.laws.proofs.Basic.{exactly, exactly-one}
 use Rattle.promises.specs.Reading.{maxBytes, Refused, Accepted, ClassesRefused, ClassesAccepted}
 use Rattle.promises.specs.Correspondence.{StartEqual, StepEqual, Start, Step, PairedAt, CoarsestInside}
 use Rattle.promises.specs.Calls.{WriteSays, RunSays, Files, FilesSay, CheckSays, RefineSays, Rounds, SameBoards, ProposalAccepted, oneClass, AcceptsInRoom}
 use Rattle.promises.proofs.RoundTrip.{round-trip}
-use Rattle.promises.proofs.ReadProper.{some-signal}
 use Rattle.promises.proofs.Written.{sheet-length, file-length, length-classBytes, classes-written}
 use Rattle.promises.proofs.SheetReading.{refused-exactly, accepted-exactly}
 use Rattle.promises.proofs.ClassesReading.{classes-refused-exactly, classes-accepted-exactly}

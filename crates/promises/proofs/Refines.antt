@@ -1,27 +1,26 @@
 -- What refine answers on two sheets and a proposal, exactly. Assumes nothing.
-use mathlib.Core.Path.{_≡_, refl, sym, ap, _∙_, subst}
-use mathlib.Core.Bool.{Bool, true, false, not}
-use mathlib.Core.List.{List, map}
-use mathlib.Core.Logic.{_↔_}
+use mathlib.Core.Path.{_≡_, sym, ap, _∙_, subst}
+use mathlib.Core.Bool.{not}
+use mathlib.Core.List.{List}
 use Prim.Native.Nat.{ℕ, suc, _+_, _*_, _≤_, _<_}
 use native.Mathlib.Omega.{arith}
 use lib.ListN.{length}
 use lib.Dec.{ltb, leb}
 use borrow.Author.Tests.{ltb-true, ltb-false, leb-true, leb-false, lt-ltb, le-ltb, le-leb, lt-leb}
-use Rattle.meaning.specs.Basic.{if_then_else_, upFrom, leastFrom}
-use Rattle.meaning.specs.Numbers.{OUT, NO-ROOM, no-file, OUTPUTS}
+use Rattle.meaning.specs.Basic.{leastFrom}
+use Rattle.meaning.specs.Numbers.{OUT, NO-ROOM, no-file}
 use Rattle.meaning.specs.Sheet.{Sheet, classBytes}
 use Rattle.meaning.specs.Joint.{total, T, rounds, outputFault}
 use Rattle.meaning.specs.Room.{startCount, stepCount}
-use Rattle.meaning.specs.Answer.{Answer, equivalent, undecided, refusal, Outcome, silent, refuse, outputsVerdict, stepCounts, firstAbove, greatest, refineVerdict}
+use Rattle.meaning.specs.Answer.{Answer, Outcome, silent, refuse, outputsVerdict, stepCounts, firstAbove, greatest, refineVerdict}
 use Rattle.laws.proofs.Basic.{case-bool}
-use Rattle.promises.specs.Correspondence.{PairedAt, PairedOutputs}
+use Rattle.promises.specs.Correspondence.{PairedOutputs}
 use Rattle.promises.specs.Calls.{LeastFailing, Greatest, Rounds, Worked, RefineSays, too-small, no-start-room, no-step-room, unpaired, all-hold}
 use Rattle.promises.proofs.Tests.{paired-iff}
 use Rattle.promises.proofs.Least.{leastBad, bad-fails, none-fails, fails-bad, all-none}
 use Rattle.promises.proofs.Counts.{above-least, fits-iff, greatest-is, greatest-only}
 use Rattle.promises.proofs.Equations.{length-T}
-use Rattle.promises.proofs.Rounds.{rounds-lt, rounds-fixed, rounds-least}
+use Rattle.promises.proofs.Rounds.{rounds-fixed, rounds-least}
 use Rattle.promises.proofs.Checks.{unpaired-verdict, paired-verdict}
 
 abbrev answerIn : Outcome → Answer

@@ -1,5 +1,5 @@
 -- The rounds: each T splits the one before, they settle in fewer rounds than there are signals, and stay settled. Assumes nothing.
-use mathlib.Core.Path.{_≡_, refl, sym, ap, _∙_, subst}
+use mathlib.Core.Path.{_≡_, sym, ap, _∙_, subst}
 use mathlib.Core.Bool.{Bool, true, false}
 use mathlib.Core.List.{List}
 use Prim.Native.Nat.{ℕ, zero, suc, _+_, _≤_, _<_}
@@ -7,10 +7,10 @@ use native.Mathlib.Omega.{arith}
 use lib.ListN.{length}
 use lib.Dec.{eqb, ltb}
 use borrow.Author.Tests.{ltb-true, ltb-false, eqb-true, eqb-false, eq-eqb}
-use Rattle.meaning.specs.Basic.{if_then_else_, leastFrom, sameList}
+use Rattle.meaning.specs.Basic.{if_then_else_, sameList}
 use Rattle.meaning.specs.Sheet.{Sheet}
 use Rattle.meaning.specs.Joint.{class, first, total, T, rounds}
-use Rattle.laws.proofs.Basic.{case-bool, true-false, Least, least-is, sameList-eq, sameList-refl}
+use Rattle.laws.proofs.Basic.{case-bool, true-false, least-is, sameList-eq, sameList-refl}
 use Rattle.promises.proofs.Tests.{first-is, first-of}
 use Rattle.promises.proofs.Groups.{grouping-only}
 use Rattle.promises.proofs.Equations.{length-T, equation-3, T-own}

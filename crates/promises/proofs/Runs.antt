@@ -1,16 +1,14 @@
 -- What write and run answer, exactly. Assumes nothing.
-use mathlib.Core.Path.{_≡_, refl, sym, _∙_}
-use mathlib.Core.Bool.{Bool, true, false}
+use mathlib.Core.Path.{_≡_, refl, sym}
+use mathlib.Core.Bool.{true, false}
 use mathlib.Core.List.{List, [], _∷_}
 use Prim.Native.Nat.{ℕ, zero, suc, _+_, _^_, _≤_, _<_}
 use native.Mathlib.Omega.{arith}
 use lib.ListN.{length, getD}
 use lib.Dec.{ltb}
 use borrow.Author.Tests.{ltb-true, ltb-false, lt-ltb, le-ltb}
-use Rattle.meaning.specs.Basic.{if_then_else_}
-use Rattle.meaning.specs.Numbers.{VECTOR, no-file}
 use Rattle.meaning.specs.Sheet.{Sheet, Read, refused, value, inputs, readSheet, sheetBytes}
-use Rattle.meaning.specs.Answer.{Answer, wrote, refusal, Outcome, silent, refuse, orRefuse, writeAnswer, badVector, runAnswer}
+use Rattle.meaning.specs.Answer.{Answer, silent, refuse, orRefuse, writeAnswer, badVector, runAnswer}
 use Rattle.laws.proofs.Basic.{case-bool}
 use Rattle.promises.specs.Calls.{LeastFailing, WriteSays, FitsInputs, RunSays, a-refused, too-small, written, bad-vector, ran}
 

@@ -1,17 +1,17 @@
 -- Soundness: a signal correspondence that pairs the outputs makes the outputs equal at every tick. Assumes nothing.
-use mathlib.Core.Path.{_≡_, refl, sym, ap, ap₂, _∙_}
+use mathlib.Core.Path.{_≡_, refl, sym, ap₂, _∙_}
 use mathlib.Core.Bool.{Bool, true, false, Bool·beq}
-use mathlib.Core.List.{List, [], _∷_, _++_, map}
-use Prim.Native.Nat.{ℕ, zero, suc, _+_, _<_}
+use mathlib.Core.List.{List, [], _∷_, map}
+use Prim.Native.Nat.{ℕ, zero, suc, _<_}
 use native.Mathlib.Omega.{arith}
 use lib.ListN.{length, getD, take, drop, length-map}
 use lib.Seq.{take-at, drop-at, ext-getD}
 use Rattle.meaning.specs.Basic.{bit}
 use Rattle.meaning.specs.Sheet.{Output, Sheet}
 use Rattle.meaning.specs.Tick.{values, initial, shown, outputsFrom, outputsOf}
-use Rattle.meaning.specs.Joint.{class, regsA, regs, ins, total, f, s0, after, polarity, h, outA, outB}
+use Rattle.meaning.specs.Joint.{regsA, regs, ins, total, f, s0, after, polarity, h, outA, outB}
 use Rattle.laws.proofs.Basic.{true-false}
-use Rattle.promises.specs.Correspondence.{Sized, SameOutputs, Together, StartEqual, Conforms, StepEqual, Start, Step, Correspondence, PairedAt, PairedOutputs}
+use Rattle.promises.specs.Correspondence.{Sized, SameOutputs, StartEqual, Conforms, StepEqual, Start, Step, Correspondence, PairedOutputs}
 use Rattle.promises.specs.Proper.{OutputsName}
 use Rattle.promises.proofs.Ticks.{length-initial}
 use Rattle.promises.proofs.Joint.{length-s0, length-after, after-A, after-B, f-A, f-B, bit-h}

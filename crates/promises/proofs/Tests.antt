@@ -1,18 +1,18 @@
 -- The computed tests say exactly what van Eijk's definitions say. Assumes nothing.
 use mathlib.Core.Path.{_≡_, refl, sym, ap, _∙_}
-use mathlib.Core.Bool.{Bool, true, false, not, _&&_, _||_, Bool·beq}
+use mathlib.Core.Bool.{Bool, true, not, _||_, Bool·beq}
 use mathlib.Core.List.{List, _++_}
 use mathlib.Core.Logic.{_↔_}
-use Prim.Native.Nat.{ℕ, zero, suc, _+_, _≤_, _<_}
+use Prim.Native.Nat.{ℕ, _+_, _≤_, _<_}
 use native.Mathlib.Omega.{arith}
 use lib.ListN.{length}
 use lib.Dec.{eqb, ltb}
-use borrow.Author.Tests.{eqb-true, eq-eqb, ltb-true, ltb-false, not-false, not-true}
+use borrow.Author.Tests.{eqb-true, eq-eqb, ltb-true, ltb-false}
 use Rattle.meaning.specs.Basic.{bit, leastFrom, every}
 use Rattle.meaning.specs.Sheet.{Sheet}
-use Rattle.meaning.specs.Joint.{class, first, matches, ins, total, variables, s0, after, polarity, h, stateOf, xOf, yOf, hNow, hNext, Q, startSame, stepSame, startFault, stepFault, outA, outB, paired, outputFault}
-use Rattle.laws.proofs.Basic.{case-bool, true-false, and-left, and-right, and-both, or-right, or-intro, beq-eq, eq-beq, Least, least-is, least-none, every-all, all-every, all-kept, kept-all}
-use Rattle.promises.specs.Correspondence.{Together, StartEqual, Conforms, StepEqual, Start, Step, PairedAt, PairedOutputs}
+use Rattle.meaning.specs.Joint.{class, first, matches, ins, total, variables, s0, polarity, h, stateOf, xOf, yOf, hNow, hNext, Q, startSame, stepSame, outA, outB, paired}
+use Rattle.laws.proofs.Basic.{case-bool, true-false, and-left, and-right, and-both, or-right, or-intro, beq-eq, eq-beq, least-is, every-all, all-every, all-kept, kept-all}
+use Rattle.promises.specs.Correspondence.{Together, StartEqual, Conforms, StepEqual, PairedAt}
 use Rattle.promises.proofs.Joint.{size-of, state-of, x-of, y-of, length-state, length-x, length-y}
 
 -- ## The first of a class

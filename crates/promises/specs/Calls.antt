@@ -1,6 +1,6 @@
 -- What each call says, and exactly when: a rule for each answer, in the order of the paper. Assumes nothing.
 use mathlib.Core.Path.{_≡_}
-use mathlib.Core.List.{List, map}
+use mathlib.Core.List.{List}
 use Prim.Native.Nat.{ℕ, suc, _+_, _*_, _^_, _≤_, _<_, max}
 use lib.ListN.{length, getD, replicate}
 use Rattle.meaning.specs.Numbers.{Refusal, UNLIKE, OUT, VECTOR, NO-ROOM, file-A, file-B, file-grouping, no-file, START, STEP, OUTPUTS}

@@ -9,7 +9,6 @@ use Rattle.meaning.specs.Numbers.{INPUT, REGISTER, NOT, AND, XOR, OUTPUT, END, 
 use Rattle.meaning.specs.Basic.{if_then_else_}
 use Rattle.meaning.specs.Sheet as paper
 use Rattle.answer.specs.Meant.{refusalOf}
-use Rattle.answer.specs.declared.Answer.the-variants as answer
 use Rattle.sheet.specs.declared.Sheet.{Sheet}
 use Rattle.sheet.specs.declared.record.Record.{Record}
 use Rattle.sheet.specs.declared.record.Record.the-variants.{Sound, Faulty}

@@ -2,7 +2,6 @@
 ghost use mathlib.Core.Path.{_≡_};
 ghost use Prim.Native.Nat.{_+_, _≤_, _<_};
 ghost use lib.ListN.{length};
-ghost use Rattle.sheet.specs.Stored.{Whole};
 ghost use Rattle.work.specs.Lists.{Alike};
 ghost use Rattle.yellopard.specs.Calls.{FilesSay, PlainPut, PairAsks, endedBy};
 use answer::Answer;
