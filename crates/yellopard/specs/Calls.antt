@@ -71,10 +71,12 @@ pub record RefinedFiles (f : Files) (n : ℕ) (w u old new : List ℕ) (r : Answ
   pub result : new ≡ resultAfter (refineVerdict (roomOf w) (length old) (left (f .pair)) (right (f .pair)) (take n (f .classes))) old
   pub lent : Lent w u
 
+-- The call check on the bytes of three files: what is answered is what the paper says, and the lent table comes back zeroed.
 pub record Checked (a b p table after : List ℕ) (r : Answer) : Type 0 where
   pub answer : answerOf r ≡ (checkAnswer a b p (length table)) .answer
   pub zeroed : after ≡ cleared table
 
+-- The call refine: the same, and a result that was old is new afterwards, as the paper says.
 pub record Refined (a b p table after old new : List ℕ) (r : Answer) : Type 0 where
   pub answer : answerOf r ≡ (refineAnswer a b p (length table) (length old)) .answer
   pub zeroed : after ≡ cleared table
