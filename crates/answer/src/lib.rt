@@ -1,9 +1,11 @@
 // The answers that all calls share, and the paper's number of each.
+#![tactic(auto)]
+
 ghost use Rattle.std.specs.Prelude.{◌≡◌};
 ghost use Rattle.meaning.specs.Numbers.{number_of, number_of_file, number_of_reason};
 ghost use Rattle.answer.specs.Meant.{refusal_of, file_of, reason_of};
 
-#[derive(Drop)]
+#[derive(Clone, Copy)]
 pub enum Refusal {
     Short,
     Kind,
@@ -21,7 +23,7 @@ pub enum Refusal {
 }
 
 // The file that a refusal names.
-#[derive(Drop)]
+#[derive(Clone, Copy)]
 pub enum File {
     A,
     B,
@@ -30,7 +32,7 @@ pub enum File {
 }
 
 // Why a verdict is UNDECIDED.
-#[derive(Drop)]
+#[derive(Clone, Copy)]
 pub enum Reason {
     Start,
     Step,
@@ -38,7 +40,7 @@ pub enum Reason {
 }
 
 // Equivalent: rounds, nodes. Undecided: reason, index, rounds, nodes. Wrote: the length. Refused: what, where, position.
-#[derive(Drop)]
+#[derive(Clone, Copy)]
 pub enum Answer {
     Equivalent(usize, usize),
     Undecided(Reason, usize, usize, usize),

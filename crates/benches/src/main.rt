@@ -1,5 +1,7 @@
 // The cases of the paper that are run and not proved: the limits, and files and runs of odd lengths. Each line names a case and gives the
 // numbers of its answer: the length written, or number, file and position of a refusal.
+#![tactic(auto)]
+
 ghost use Rattle.benches.specs.Space.{Holds};
 
 use answer::{Answer, file_number, number};
@@ -37,7 +39,7 @@ fn show(name: &[u8], answer: Answer) {
 }
 
 // A file that is put together record by record; a full one stays as it is.
-#[derive(Drop)]
+#[derive(Clone, Copy)]
 pub struct Bench {
     pub bytes: [u8; 512],
     pub len: usize,

@@ -1,4 +1,6 @@
 // Groupings: read as exactly n class numbers, and written.
+#![tactic(auto)]
+
 ghost use Rattle.std.specs.Prelude.{◌≡◌, ◌++◌, ℕ, ◌+◌, ◌*◌, ◌^◌, ◌<◌, ◌≤◌, length, get_or, set, drop};
 ghost use Rattle.meaning.specs.Numbers.{CLASS};
 ghost use Rattle.meaning.specs.Sheet.{bytes_of_classes};
@@ -10,14 +12,14 @@ const END: u8 = 0x08;
 
 const CLASS: u8 = 0x11;
 
-#[derive(Drop)]
+#[derive(Clone, Copy)]
 pub enum Reading {
     Good,
     Refused(Refusal, usize),
 }
 
 // What the record at the front of a part of a file says: one class more, or how the reading ends there.
-#[derive(Drop)]
+#[derive(Clone, Copy)]
 enum Record {
     Class,
     Last(Reading),

@@ -1,4 +1,6 @@
 // Check and refine on two sheets that are alike: start room, START, step room, STEP and outputs, round by round.
+#![tactic(auto)]
+
 ghost use Rattle.std.specs.Prelude.{◌≡◌, ◌<◌, ◌≤◌, length};
 ghost use Rattle.meaning.specs.Answer.{outputs_verdict};
 ghost use Rattle.answer.specs.Meant.{answer_of};
@@ -101,7 +103,7 @@ pub fn check_pair(
 }
 
 // How one round ends: the grouping stays, it splits, or its step list has no room.
-#[derive(Drop)]
+#[derive(Clone, Copy)]
 pub enum Round {
     Stays(Head),
     Splits(Head),
@@ -137,7 +139,7 @@ fn one_round(
 }
 
 // How the rounds end: after so many that split something, or at the first whose step list has no room.
-#[derive(Drop)]
+#[derive(Clone, Copy)]
 pub enum Settled {
     After(usize, Head),
     Over(usize),

@@ -1,4 +1,6 @@
 // What the two programs share at the desk: the files that they open, and the line that they print.
+#![tactic(auto)]
+
 ghost use Rattle.io.specs.Counts.{IsPrefixLen};
 
 mod line;

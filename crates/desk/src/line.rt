@@ -6,7 +6,7 @@ ghost use Rattle.desk.specs.Line.{Put, figures, word_of_mode, words, numbers, li
 
 use answer::{Answer, file_number, number, reason_number};
 
-#[derive(Drop)]
+#[derive(Clone, Copy)]
 pub enum Mode {
     Check,
     Refine,

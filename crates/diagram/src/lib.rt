@@ -1,5 +1,7 @@
 // Reduced decision diagrams in a lent table of 16-bit words. A node stands for a tree of the crate `tree`; ids 0 and 1 are the constants,
 // id i + 2 is node i, and the table's head says how many nodes are used. Combining recurses on branches and adds no node but the result's.
+#![tactic(auto)]
+
 ghost use Rattle.std.specs.Prelude.{◌≡◌, ◌+◌, ◌≤◌, max};
 ghost use Rattle.meaning.specs.Numbers.{max_nodes};
 ghost use Rattle.tree.specs.Tree.{complement_tree};
@@ -20,7 +22,7 @@ use start::begin;
 use words::room;
 
 // The table's head: the nodes used, and the greatest count since the head was made.
-#[derive(Drop)]
+#[derive(Clone, Copy)]
 pub struct Head {
     pub used: usize,
     pub most: usize,
@@ -62,13 +64,13 @@ impl Head {
 }
 
 // The id of a tree, or that the table is full and lacks a node of it.
-#[derive(Drop)]
+#[derive(Clone, Copy)]
 pub enum Made {
     Node(usize, Head),
     Full(Head),
 }
 
-#[derive(Drop)]
+#[derive(Clone, Copy)]
 pub enum Op {
     And,
     Or,
@@ -77,21 +79,21 @@ pub enum Op {
 }
 
 // A known id, or none.
-#[derive(Drop)]
+#[derive(Clone, Copy)]
 pub enum Hit {
     Is(usize),
     Miss,
 }
 
 // The branches of a diagram at some height.
-#[derive(Drop)]
+#[derive(Clone, Copy)]
 pub struct Branches {
     pub low: usize,
     pub high: usize,
 }
 
 // The greater height of two diagrams, their branches there, and the cache slot for what they make.
-#[derive(Drop)]
+#[derive(Clone, Copy)]
 pub struct Sides {
     pub top: usize,
     pub a: Branches,
@@ -100,7 +102,7 @@ pub struct Sides {
 }
 
 // How a combination begins: it is known, or it goes on with the branches.
-#[derive(Drop)]
+#[derive(Clone, Copy)]
 pub enum Plan {
     Known(usize),
     Split(Sides),

@@ -1,5 +1,7 @@
 // Lists of trees worked in a lent table, their ids put into a lent array: normalised functions, the equalities of a grouping with their
 // running product, and products. Nothing but the list's own nodes enters the table; where it is full, a part of the list is missing.
+#![tactic(auto)]
+
 ghost use Rattle.std.specs.Prelude.{◌≡◌, ◌<◌, length, get_or, set};
 ghost use Rattle.diagram.specs.Table.{tree_at};
 ghost use Rattle.diagram.specs.Contract.{Says, ComplementAsks};
@@ -11,7 +13,7 @@ use diagram::{Head, Made, Op, combine, complement};
 use groups::first_of;
 
 // A list is worked, or the table is full.
-#[derive(Drop)]
+#[derive(Clone, Copy)]
 pub enum Worked {
     Done(Head),
     Over(Head),

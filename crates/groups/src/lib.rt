@@ -1,5 +1,7 @@
 // Groupings and ids, each a number for each of n signals: the first of a class, the least signal whose id differs from
 // that of the first of its class, and the classes split by id.
+#![tactic(auto)]
+
 ghost use Rattle.std.specs.Prelude.{◌≡◌, ◌+◌, ◌<◌, ◌≤◌, max, length, get_or};
 ghost use Rattle.meaning.specs.Basic.{same_list};
 ghost use Rattle.meaning.specs.Joint.{first};

@@ -8,7 +8,7 @@ use native.Mathlib.Omega.{arith}
 use lib.ListN.{length, get_or}
 use lib.Dec.{eqb, ltb, leb}
 use borrow.Author.Tests.{ltb-false, leb-true, leb-false, eqb-true, le-ltb, lt-leb, le-leb, eq-eqb}
-use Rattle.meaning.specs.Numbers.{INPUT, REGISTER, NOT, AND, XOR, OUTPUT, END, max_inputs, max_registers, max_signals, max_outputs, SHORT, KIND, MANY, VALUE, LATER}
+use Rattle.meaning.specs.Numbers.{INPUT, REGISTER, NOT, AND, XOR, OUTPUT, END, max_inputs, max_registers, max_signals, max_outputs, SHORT, KIND, MANY, VALUE, LATER, AFTER, NO_OUTPUT, DANGLING, UNLIKE, COUNT, OUT, VECTOR, NO_ROOM}
 use Rattle.meaning.specs.Sheet.{Gate, and, or, xor, gate, Part, inputs, registers, body_of, kind_is_unknown, exceeds_limits, operand_not_lower, Fault, sound, faulty, first_fault, fault_of, signal_of, add, gate_kind}
 use Rattle.laws.proofs.Basic.{case_bool, true_false, and_both, and_left, and_right}
 use Rattle.promises.specs.Reading.{Known, Whole, Few, Binary, Lower, Sound, Faulty, unknown_kind, too_short, too_many, bad_value, not_lower}
@@ -107,6 +107,14 @@ module _ (p : Part) (k : ℕ) (rest : List ℕ) where
       rw (known_test.1 h, whole_test.1 w, few_test.1 f, passes _ binary_test n)
   judged_is (faulty LATER) (not_lower h w f b n) =
       rw (known_test.1 h, whole_test.1 w, few_test.1 f, binary_test.1 b, passes _ lower_test n)
+  judged_is (faulty AFTER) j = elim j [ ]
+  judged_is (faulty NO_OUTPUT) j = elim j [ ]
+  judged_is (faulty DANGLING) j = elim j [ ]
+  judged_is (faulty UNLIKE) j = elim j [ ]
+  judged_is (faulty COUNT) j = elim j [ ]
+  judged_is (faulty OUT) j = elim j [ ]
+  judged_is (faulty VECTOR) j = elim j [ ]
+  judged_is (faulty NO_ROOM) j = elim j [ ]
 
   pub judge : (f : Fault) × Judged p k rest f
   judge =

@@ -155,6 +155,14 @@ module _ (file : List ℕ) where
   stops_faulty at k rest x MANY (too_many h w n) = (k, rest, x, too_many h w n)
   stops_faulty at k rest x VALUE (bad_value h w f n) = (k, rest, x, bad_value h w f n)
   stops_faulty at k rest x LATER (not_lower h w f b n) = (k, rest, x, not_lower h w f b n)
+  stops_faulty at k rest x AFTER y = elim y [ ]
+  stops_faulty at k rest x NO_OUTPUT y = elim y [ ]
+  stops_faulty at k rest x DANGLING y = elim y [ ]
+  stops_faulty at k rest x UNLIKE y = elim y [ ]
+  stops_faulty at k rest x COUNT y = elim y [ ]
+  stops_faulty at k rest x OUT y = elim y [ ]
+  stops_faulty at k rest x VECTOR y = elim y [ ]
+  stops_faulty at k rest x NO_ROOM y = elim y [ ]
 
   stops_last : (e : ℕ) (x : Reaches file e (END ∷ [])) (os : List Output) → x.part.outputs ≡ os → Stop
   unfolding Refused Stop

@@ -1,4 +1,6 @@
 // Sheets: the type with its limits, and what reading one gives.
+#![tactic(auto)]
+
 ghost use Rattle.std.specs.Prelude.{◌≡◌};
 ghost use Rattle.sheet.specs.Stored.{empty_sheet};
 ghost use Rattle.sheet.specs.Reading.{refusal_in};
@@ -13,21 +15,21 @@ pub use reader::read_sheet;
 pub use writer::write;
 
 // The record that all parts share: the kind and the body of a signal's record; b is 0 where the body has one byte.
-#[derive(Drop)]
+#[derive(Clone, Copy)]
 pub struct Signal {
     pub kind: u8,
     pub a: u8,
     pub b: u8,
 }
 
-#[derive(Drop)]
+#[derive(Clone, Copy)]
 pub struct Output {
     pub pin: u8,
     pub signal: u8,
 }
 
 // The first places of the arrays are used, as many as the counts say; the other places hold zeros.
-#[derive(Drop)]
+#[derive(Clone, Copy)]
 pub struct Sheet {
     pub signal: [Signal; Sheet::SIGNALS],
     pub output: [Output; Sheet::OUTPUTS],
@@ -38,14 +40,14 @@ pub struct Sheet {
 }
 
 // Whether a file says a sheet; else the refusal and its position.
-#[derive(Drop)]
+#[derive(Clone, Copy)]
 pub enum Reading {
     Good,
     Refused(Refusal, usize),
 }
 
 // An enum cannot hold an array, so the sheet stands beside its reading. It is the empty one where the file is refused.
-#[derive(Drop)]
+#[derive(Clone, Copy)]
 pub struct Found {
     pub sheet: Sheet,
     pub reading: Reading,

@@ -11,14 +11,14 @@ use crate::{Found, Output, Reading, Sheet, Signal, kind};
 use answer::Refusal;
 
 // A REGISTER or OUTPUT record: its offset, and the signal that it names.
-#[derive(Drop)]
+#[derive(Clone, Copy)]
 struct Name {
     at: usize,
     signal: u8,
 }
 
 // What has been read so far: the sheet, and the records that name a signal, in file order.
-#[derive(Drop)]
+#[derive(Clone, Copy)]
 struct Part {
     sheet: Sheet,
     naming: [Name; Sheet::NAMES],

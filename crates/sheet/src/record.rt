@@ -9,7 +9,7 @@ use crate::{Sheet, kind};
 use answer::Refusal;
 
 // Sound: the kind and the body; its second byte is 0 where the body has one.
-#[derive(Drop)]
+#[derive(Clone, Copy)]
 pub(crate) enum Record {
     Sound(u8, u8, u8),
     Faulty(Refusal),

@@ -1,4 +1,6 @@
 // A run of one sheet, tick by tick.
+#![tactic(auto)]
+
 ghost use Rattle.std.specs.Prelude.{◌≡◌, false, not, [], ◌++◌, ◌+◌, ◌^◌, ◌<◌, ◌≤◌, ltb, eqb, length, drop};
 ghost use Rattle.meaning.specs.Numbers.{REGISTER, max_inputs, max_registers, max_signals, max_outputs};
 ghost use Rattle.meaning.specs.Basic.{if◌then◌else◌, bit, bits_of, from_bits};
@@ -11,14 +13,14 @@ use answer::{Answer, File, Refusal};
 use sheet::{Reading, Sheet, Signal, kind, read_sheet};
 
 // What the registers hold, in order, and how many there are; the places after them hold false.
-#[derive(Drop)]
+#[derive(Clone, Copy)]
 pub struct State {
     pub held: [bool; Sheet::REGISTERS],
     pub registers: usize,
 }
 
 // What a tick gives: the outputs' number, and what the registers hold after it.
-#[derive(Drop)]
+#[derive(Clone, Copy)]
 struct Tick {
     shown: u16,
     next: State,

@@ -1,4 +1,6 @@
 // The start list and the step list of two sheets, worked in the lent table.
+#![tactic(auto)]
+
 ghost use Rattle.std.specs.Prelude.{◌≡◌, ◌+◌, ◌≤◌, length};
 ghost use Rattle.meaning.specs.Numbers.{max_inputs, max_registers};
 ghost use Rattle.meaning.specs.Room.{cleared};
@@ -18,7 +20,7 @@ use pass::{Moment, Pass, put_sheet};
 use sheet::Sheet;
 
 // Two sheets, and the polarity of each joint signal: 1 for plain, 0 for flipped; the places after them hold zeros.
-#[derive(Drop)]
+#[derive(Clone, Copy)]
 pub struct Pair {
     pub a: Sheet,
     pub b: Sheet,

@@ -10,7 +10,7 @@ use fill::{Worked, id_at, put_id, worked_of};
 use sheet::{Sheet, Signal, kind};
 
 // When the joint list is looked at: in the initial state, now, or one tick on.
-#[derive(Drop)]
+#[derive(Clone, Copy)]
 pub enum Moment {
     Start,
     Now,
@@ -19,7 +19,7 @@ pub enum Moment {
 
 // The moment, the heights of the variables of the next register and of the next input, the joint number of the sheet's first signal, and
 // how many variable levels there are.
-#[derive(Drop)]
+#[derive(Clone, Copy)]
 pub struct Pass {
     pub moment: Moment,
     pub register: usize,

@@ -10,7 +10,7 @@ use tick::{initial, values};
 use work::Pair;
 
 // How far the files go: a grouping of n signals stands ready, or the call ends with an answer.
-#[derive(Drop)]
+#[derive(Clone, Copy)]
 pub enum Stage {
     Ready(usize),
     Ended(Answer),
@@ -29,7 +29,7 @@ impl Stage {
 }
 
 // An enum cannot hold an array: the sheets and the classes stand beside the stage.
-#[derive(Drop)]
+#[derive(Clone, Copy)]
 pub struct Files {
     pub pair: Pair,
     pub classes: [u16; Sheet::JOINT],

@@ -1,4 +1,6 @@
 // The calls check and refine on the bytes of files. (The calls write and run are `sheet::write` and `tick::run`.)
+#![tactic(auto)]
+
 ghost use Rattle.std.specs.Prelude.{◌≡◌, ◌+◌, ◌*◌, ◌≤◌, length, take, replicate};
 ghost use Rattle.meaning.specs.Numbers.{max_signals};
 ghost use Rattle.correspond.specs.Verdicts.{CheckSays};

@@ -1,4 +1,6 @@
 // Checks the grouping p.classes of the boards a.sheet and b.sheet, in the folder where it is started, and prints the answer's line.
+#![tactic(auto)]
+
 use desk::{FILE, Mode, TABLE, print_answer, read_file};
 use yellopard::check;
 

@@ -1,4 +1,6 @@
 // Refines the grouping p.classes of the boards a.sheet and b.sheet, in the folder where it is started, and prints the answer's line.
+#![tactic(auto)]
+
 use desk::{FILE, Mode, RESULT, TABLE, print_answer, read_file};
 use yellopard::refine;
 
