@@ -15,9 +15,6 @@ first_with-u-requires c = (omega arith, omega arith)
 pub number-c-requires : goal.number-c-requires
 number-c-requires c = omega (arith, c.loop-v.invariant.size, c.first_with-u.ensures.1)
 
--- mul-out : tie.Need-overflow-mul-out invariant-loop decreases-loop
--- mul-out c = omega arith
-
 pub bounds-out-v : goal.bounds-out-v
 bounds-out-v c = omega (arith, c.loop-v.invariant.size)
 
@@ -25,9 +22,6 @@ pub counted-count-requires : goal.counted-count-requires
 counted-count-requires c =
     let l = c.loop-v in
     omega (arith, numbered_upto _ _ l.out l.count l.v l.invariant _ _ c.number-c.ensures.0 c.number-c.ensures.1)
-
--- add-v : tie.Need-overflow-add-v invariant-loop decreases-loop
--- add-v c = omega arith
 
 pub loop-v-smaller : goal.loop-v-smaller
 loop-v-smaller c = omega arith

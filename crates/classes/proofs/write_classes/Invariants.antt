@@ -1,0 +1,14 @@
+-- After i turns the first i records stand at the front, and END follows the last. Assumes nothing.
+use Prim.Native.Nat.{◌*◌, ◌-◌, ◌≤◌}
+use mathlib.Core.Path.{◌≡◌, refl, ap, ◌∙◌}
+use mathlib.Core.List.{◌++◌}
+use native.Mathlib.Omega.{arith}
+use lib.ListN.{length, drop, length-set}
+use Rattle.classes.proofs.Filling.{records, written_none, written_more, written_all}
+use Rattle.classes.proofs.write_classes.Given as goal
+
+abbrev pub invariant-loop-i : goal.invariant-loop-i
+invariant-loop-i l = (l.i ≤ length l.classes) × ((length l.res ≡ length l.initial.res) × (l.res ≡ records l.classes l.i ++ drop (2 * l.i) l.initial.res))
+
+abbrev pub decreases-loop-i : goal.decreases-loop-i
+decreases-loop-i l = length l.classes - l.i

@@ -1,0 +1,6 @@
+-- The empty sheet stands beside a refusal. Assumes nothing.
+use borrow.Author.Rules.{rules}
+use Rattle.sheet.proofs.reader.refused.Goals as goal
+
+pub returns : goal.returns
+returns c = cc c.empty-sheet.ensures

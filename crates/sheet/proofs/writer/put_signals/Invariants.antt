@@ -1,0 +1,18 @@
+-- The signals are put one after the other. Assumes nothing.
+use Prim.Native.Nat.{◌-◌}
+use native.Mathlib.Omega.{arith}
+use Rattle.meaning.specs.Sheet as paper
+use Rattle.sheet.specs.Stored.{sheet_of, signal_of, no_signal}
+use Rattle.sheet.proofs.Whole.{length_signals}
+use Rattle.sheet.proofs.Bytes.{signal_here, sheet_length}
+use Rattle.sheet.proofs.Puts.{Puts, puts_none, puts_more, puts_room, puts_end, put_length}
+use Rattle.meaning.specs.Sheet as paper
+use Rattle.meaning.specs.Sheet as paper
+use Rattle.meaning.specs.Sheet as paper
+use Rattle.sheet.proofs.writer.put_signals.Given as goal
+
+abbrev pub invariant-loop-i : goal.invariant-loop-i
+invariant-loop-i l = Puts paper.bytes_of_signal (sheet_of l.s).signals l.initial.res 0 l.i l.res l.at
+
+abbrev pub decreases-loop-i : goal.decreases-loop-i
+decreases-loop-i l = l.s.signals - l.i
