@@ -7,7 +7,7 @@ use borrow.Author.Tests.{lt-ltb, le-ltb}
 use lib.ListN.{length, drop, length-map}
 use Rattle.meaning.specs.Basic.{bits_of, from_bits}
 use Rattle.meaning.specs.Sheet.{Sheet, refused, value, inputs, reading_of_sheet}
-use Rattle.meaning.specs.Tick.{outputs_from, outputs_of}
+use Rattle.meaning.specs.Tick.{outputs_from, outputs_of, taken, values}
 use Rattle.meaning.specs.Answer.{refuse, silent, result_after, or_refuse, bad_vector_place, run_answer}
 use Rattle.answer.specs.declared.Refusal.{Refusal}
 use Rattle.answer.specs.declared.Refusal.TheVariants.{Out, Vector}
@@ -25,7 +25,7 @@ use Rattle.tick.specs.Tick.{numbers_of, Ran}
 length_outputs : (s : Sheet) (rs : List Bool) (xs : List (List Bool)) → length (outputs_from s rs xs) ≡ length xs
 unfolding outputs_from
 length_outputs s rs [] = refl
-length_outputs s rs (x ∷ xs) = ap suc (length_outputs s _ xs)
+length_outputs s rs (x ∷ xs) = ap suc (length_outputs s (taken s.signals (values s.signals rs x)) xs)
 
 length-numbers : (s : Sheet) (vectors : List ℕ) → length (numbers_of s vectors) ≡ length vectors
 unfolding numbers_of outputs_of
