@@ -1,0 +1,9 @@
+-- `nodes::unlink` puts the next node of the chain first. Assumes nothing.
+use borrow.Author.Rules.{rules}
+use Rattle.diagram.specs.Table.{bucket_of, unlinked}
+use Rattle.diagram.proofs.nodes.unlink.Goals as goal
+
+pub returns : goal.returns
+unfolding unlinked bucket_of
+returns c =
+    cc
