@@ -52,9 +52,9 @@ module _ (t : ℕ → Tree) where
   -- a part of the trees of the first k is a part of one of them
   pub part_map : {s : Tree} (k : ℕ) → PartOf s (map_trees t k) → (v : ℕ) × (v < k) × Sub s (t v)
   unfolding map_trees
-  part_map zero q = absurd (part_none q)
-  part_map (suc k) q = ⊎_elim
-      (λ l. let r = part_map k l in (r.0, omega (arith, r.1), r.2))
+  part_map {s} zero q = absurd (part_none q)
+  part_map {s} (suc k) q = ⊎_elim
+      (λ l. let r : (v : ℕ) × (v < k) × Sub s (t v) = part_map {s = s} k l in (r.0, omega (arith, r.1), r.2))
       (λ l. (k, omega arith, part_one l))
       (part_split (map_trees t k) q)
 

@@ -8,6 +8,7 @@ use Rattle.tree.specs.Tree.{Tree, Sub}
 use Rattle.fill.specs.Work.{PartOf, in_first, in_rest}
 
 part_some : (s : Tree) (ts : List Tree) → PartOf s ts → length ts ≡ 0 → ⊥
+part_some s [] q e = elim q [ ]
 part_some s (t ∷ ts) (in_first q) e = omega arith
 part_some s (t ∷ ts) (in_rest q) e = omega arith
 
