@@ -8,11 +8,9 @@ mod line;
 
 use answer::Answer;
 pub use line::{Mode, put_line};
-use std::fs;
-use std::io;
 use std::io::Read;
 use std::rt::Files;
-use std::str;
+use std::{fs, io, str};
 
 // The bytes of each file that are used; a table of 3,000 nodes of ten words; a result with space for any grouping, 2 * 240 + 1.
 pub const FILE: usize = 4096;

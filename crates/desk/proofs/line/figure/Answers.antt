@@ -2,7 +2,6 @@
 use native.Mathlib.Omega.{arith}
 use Rattle.desk.proofs.Putting.{put_then, put_same}
 use Rattle.desk.proofs.Decimal.{figure_one, few_digits}
-use borrow.Author.Rules.{rules}
 use Rattle.desk.proofs.line.figure.Goals as goal
 
 pub put-requires : goal.put-requires

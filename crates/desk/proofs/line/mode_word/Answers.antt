@@ -1,7 +1,6 @@
 -- Each mode has its word. Assumes nothing.
 use native.Mathlib.Omega.{arith}
 use Rattle.desk.specs.Line.{word_of_mode}
-use borrow.Author.Rules.{rules}
 use Rattle.desk.proofs.line.mode_word.Goals as goal
 
 pub returns-in-Check : goal.returns-in-Check

@@ -1,9 +1,8 @@
-use Prim.Native.Nat.{◌+◌, ◌-◌, ◌≤◌}
 use mathlib.Core.Path.{◌≡◌, refl}
-use mathlib.Core.List.{◌++◌, append-nil}
+use mathlib.Core.List.{append-nil}
 use native.Mathlib.Omega.{arith}
 use native.Mathlib.Nat.{add-zero}
-use lib.ListN.{length, take, drop, length-set}
+use lib.ListN.{take, length-set}
 use lib.Seq.{take_all}
 use Rattle.desk.proofs.Putting.{put_more, rest_more}
 use Rattle.desk.proofs.line.put.Goals as goal
@@ -21,13 +20,12 @@ pub loop-i-smaller : goal.loop-i-smaller
 loop-i-smaller c = omega arith
 
 pub loop-i-preserved : goal.loop-i-preserved
-loop-i-preserved c =
-    (
-      omega arith,
-      simp length-set (omega arith),
-      put_more _ _ _ _ c.loop-i.i _ (omega arith) (omega arith) refl c.loop-i.invariant.2,
-      rest_more _ _ _ c.loop-i.i _ c.loop-i.invariant.3,
-    )
+loop-i-preserved c = (
+  omega arith,
+  simp length-set (omega arith),
+  put_more _ _ _ _ c.loop-i.i _ (omega arith) (omega arith) refl c.loop-i.invariant.2,
+  rest_more _ _ _ c.loop-i.i _ c.loop-i.invariant.3,
+)
 
 pub shape_of-out : goal.shape_of-out
 shape_of-out c = omega arith

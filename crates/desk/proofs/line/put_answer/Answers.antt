@@ -4,7 +4,6 @@ use Rattle.meaning.specs.Answer.{row_of}
 use Rattle.answer.specs.Meant.{answer_of}
 use Rattle.desk.specs.Line.{words, numbers}
 use Rattle.desk.proofs.Putting.{put_then, put_verdict}
-use borrow.Author.Rules.{rules}
 use Rattle.desk.proofs.line.put_answer.Goals as goal
 
 pub returns-in-Equivalent : goal.returns-in-Equivalent

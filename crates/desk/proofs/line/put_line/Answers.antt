@@ -3,7 +3,6 @@ use mathlib.Core.Path.{◌∙◌}
 use native.Mathlib.Omega.{arith}
 use Rattle.io.proofs.Counting.{prefix_len_of_le}
 use Rattle.desk.proofs.Putting.{put_then, line_end}
-use borrow.Author.Rules.{rules}
 use Rattle.desk.proofs.line.put_line.Goals as goal
 
 pub returns : goal.returns

@@ -1,7 +1,6 @@
 -- Three figures in a row. Assumes nothing.
 use native.Mathlib.Omega.{arith}
 use Rattle.desk.proofs.Putting.{put_then, put_same, figures_three}
-use borrow.Author.Rules.{rules}
 use Rattle.desk.proofs.line.three.Goals as goal
 
 pub returns : goal.returns
