@@ -1,7 +1,6 @@
 pub mod Plain
 pub mod Polarity
 pub mod Stages
-pub mod Row
 pub mod Calling
 pub mod Results
 pub mod Demands

@@ -6,7 +6,6 @@ ghost use Rattle.meaning.specs.Numbers.{max_signals};
 ghost use Rattle.correspond.specs.Verdicts.{CheckSays};
 ghost use Rattle.yellopard.specs.Calls.{Prepared, RefinedFiles, Checked, Refined, is_verdict};
 
-mod face;
 mod files;
 
 use answer::{Answer, File, Refusal};

@@ -2,17 +2,18 @@
 #![tactic(auto)]
 
 use desk::{FILE, Mode, RESULT, TABLE, print_answer, read_file};
+use std::io;
 use yellopard::refine;
 
-fn main() {
+fn main(rt: HostRuntime) -> io::Result<()> {
     let mut a = [0u8; FILE];
     let mut b = [0u8; FILE];
     let mut p = [0u8; FILE];
-    let in_a = read_file(b"a.sheet", &mut a);
-    let in_b = read_file(b"b.sheet", &mut b);
-    let in_p = read_file(b"p.classes", &mut p);
+    let in_a = read_file(&rt, b"a.sheet", &mut a);
+    let in_b = read_file(&rt, b"b.sheet", &mut b);
+    let in_p = read_file(&rt, b"p.classes", &mut p);
     let mut table = [0u16; TABLE];
     let mut result = [0u8; RESULT];
     let answer = refine(&mut table, &a[..in_a], &b[..in_b], &p[..in_p], &mut result);
-    print_answer(Mode::Refine, answer);
+    print_answer(&rt, Mode::Refine, answer)
 }

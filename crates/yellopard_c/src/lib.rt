@@ -1,14 +1,16 @@
 // The C face: the four calls on the bytes of files, with the numbers of the answer in a lent row.
+#![tactic(auto)]
+
 ghost use Rattle.std.specs.Prelude.{◌≡◌, length};
 ghost use Rattle.meaning.specs.Room.{cleared};
 ghost use Rattle.meaning.specs.Answer.{result_after, write_answer, run_answer, check_answer, refine_answer};
 ghost use Rattle.answer.specs.Meant.{answer_of};
 ghost use Rattle.yellopard.specs.Calls.{row_after, Told};
 
-use crate::{check, refine};
 use answer::{Answer, file_number, number, reason_number};
 use sheet::write;
 use tick::run;
+use yellopard::{check, refine};
 
 // Numbers at the front of a row, as many as it has places for; how many there are.
 fn put(numbers: &[u64], row: &mut [u64]) -> usize
