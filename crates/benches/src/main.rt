@@ -5,37 +5,23 @@
 ghost use Rattle.benches.specs.Space.{Holds};
 
 use answer::{Answer, file_number, number};
-use libc::STDOUT_FILENO;
 use sheet::{kind, write};
+use std::io;
 use tick::run;
 
-fn word(w: &[u8]) {
-    io::write_all(STDOUT_FILENO, w);
-}
-
-fn figure(n: u64) {
-    word(b" ");
-    io::print_decimal(STDOUT_FILENO, n);
-}
-
-fn show(name: &[u8], answer: Answer) {
-    word(name);
-    word(b":");
+fn show<R: Print>(rt: &R, name: &str, answer: Answer) -> io::Result<()> {
+    print!(rt; "{name}:")?;
     match answer {
-        Answer::Wrote(length) => {
-            word(b" wrote");
-            figure(length as u64);
-        }
+        Answer::Wrote(length) => print!(rt; " wrote {length}")?,
         Answer::Refused(k, file, at) => {
-            word(b" refused");
-            figure(number(k) as u64);
-            figure(file_number(file) as u64);
-            figure(at as u64);
+            let what = number(k);
+            let place = file_number(file);
+            print!(rt; " refused {what} {place} {at}")?;
         }
         Answer::Equivalent(_, _) => {}
         Answer::Undecided(_, _, _, _) => {}
     }
-    word(b"\n");
+    println!(rt)
 }
 
 // A file that is put together record by record; a full one stays as it is.
@@ -113,74 +99,85 @@ fn twos(bench: Bench, times: usize, kind: u8) -> Bench
 }
 
 // A file written into a result with space for any sheet, and into one with space for six bytes.
-fn written(name: &[u8], file: &[u8]) {
+fn written<R: Print>(rt: &R, name: &str, file: &[u8]) -> io::Result<()> {
     let mut result = [0u8; 409];
-    show(name, write(file, &mut result));
+    show(rt, name, write(file, &mut result))
 }
 
-fn crowded(name: &[u8], file: &[u8]) {
+fn crowded<R: Print>(rt: &R, name: &str, file: &[u8]) -> io::Result<()> {
     let mut result = [0u8; 6];
-    show(name, write(file, &mut result));
+    show(rt, name, write(file, &mut result))
 }
 
 // A bench with so many outputs and END after it, written.
-fn closed(name: &[u8], bench: Bench, outputs: usize)
+fn closed<R: Print>(rt: &R, name: &str, bench: Bench, outputs: usize) -> io::Result<()>
     requires { Holds bench }
 {
     let shown = twos(bench, outputs, kind::OUTPUT);
     let whole = shown.byte(kind::END);
     let bytes = whole.bytes;
     let n = whole.len;
-    written(name, &bytes[..n]);
+    written(rt, name, &bytes[..n])
 }
 
-fn limits() {
-    closed(b"8 inputs", ones(Bench::empty(), 8, kind::INPUT), 1);
-    closed(b"9 inputs", ones(Bench::empty(), 9, kind::INPUT), 1);
-    closed(b"12 registers", twos(Bench::empty(), 12, kind::REGISTER), 1);
-    closed(b"13 registers", twos(Bench::empty(), 13, kind::REGISTER), 1);
+fn limits<R: Print>(rt: &R) -> io::Result<()> {
+    closed(rt, "8 inputs", ones(Bench::empty(), 8, kind::INPUT), 1)?;
+    closed(rt, "9 inputs", ones(Bench::empty(), 9, kind::INPUT), 1)?;
+    closed(
+        rt,
+        "12 registers",
+        twos(Bench::empty(), 12, kind::REGISTER),
+        1,
+    )?;
+    closed(
+        rt,
+        "13 registers",
+        twos(Bench::empty(), 13, kind::REGISTER),
+        1,
+    )?;
     let first = twos(Bench::empty(), 1, kind::REGISTER);
-    closed(b"120 signals", twos(first, 119, kind::AND), 1);
-    closed(b"121 signals", twos(first, 120, kind::AND), 1);
-    closed(b"16 outputs", first, 16);
-    closed(b"17 outputs", first, 17);
-    closed(b"the longest sheet", twos(first, 119, kind::AND), 16);
+    closed(rt, "120 signals", twos(first, 119, kind::AND), 1)?;
+    closed(rt, "121 signals", twos(first, 120, kind::AND), 1)?;
+    closed(rt, "16 outputs", first, 16)?;
+    closed(rt, "17 outputs", first, 17)?;
+    closed(rt, "the longest sheet", twos(first, 119, kind::AND), 16)
 }
 
-fn files() {
-    written(b"empty file", b"");
-    written(b"END alone", b"\x08");
-    written(b"half a record", b"\x01");
-    written(b"END in the middle", b"\x02\x00\x00\x08\x07\x00\x00\x08");
-    crowded(b"no room for one byte", b"\x02\x00\x00\x07\x00\x00\x08");
+fn files<R: Print>(rt: &R) -> io::Result<()> {
+    written(rt, "empty file", b"")?;
+    written(rt, "END alone", b"\x08")?;
+    written(rt, "half a record", b"\x01")?;
+    written(rt, "END in the middle", b"\x02\x00\x00\x08\x07\x00\x00\x08")?;
+    crowded(rt, "no room for one byte", b"\x02\x00\x00\x07\x00\x00\x08")?;
     let zeros = [0u8; 30000];
-    written(b"30,000 zero bytes", &zeros);
+    written(rt, "30,000 zero bytes", &zeros)
 }
 
 // A run of the bench L into a result with space for 30,000 ticks.
-fn ran(name: &[u8], vectors: &[u8]) {
+fn ran<R: Print>(rt: &R, name: &str, vectors: &[u8]) -> io::Result<()> {
     let mut result = [0u16; 30000];
     show(
+        rt,
         name,
         run(
             b"\x01\x00\x02\x00\x00\x07\x00\x01\x08",
             vectors,
             &mut result,
         ),
-    );
+    )
 }
 
-fn runs() {
-    ran(b"no tick", b"");
+fn runs<R: Print>(rt: &R) -> io::Result<()> {
+    ran(rt, "no tick", b"")?;
     let many = [0u8; 30000];
-    ran(b"30,000 ticks", &many);
+    ran(rt, "30,000 ticks", &many)?;
     let more = [0u8; 30001];
-    ran(b"one number too few", &more);
-    ran(b"a bit beyond the inputs", b"\x01\x00\x02");
+    ran(rt, "one number too few", &more)?;
+    ran(rt, "a bit beyond the inputs", b"\x01\x00\x02")
 }
 
-fn main() {
-    limits();
-    files();
-    runs();
+fn main(rt: HostRuntime) -> io::Result<()> {
+    limits(&rt)?;
+    files(&rt)?;
+    runs(&rt)
 }

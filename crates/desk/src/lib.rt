@@ -1,13 +1,16 @@
 // What the two programs share at the desk: the files that they open, and the line that they print.
 #![tactic(auto)]
 
+ghost use Rattle.std.specs.Prelude.{◌≤◌, length};
 ghost use Rattle.io.specs.Counts.{IsPrefixLen};
 
 mod line;
 
 use answer::Answer;
-use libc::STDOUT_FILENO;
 pub use line::{Mode, put_line};
+use std::io::Read;
+use std::rt::Files;
+use std::{fs, io, str};
 
 // The bytes of each file that are used; a table of 3,000 nodes of ten words; a result with space for any grouping, 2 * 240 + 1.
 pub const FILE: usize = 4096;
@@ -16,21 +19,39 @@ pub const TABLE: usize = 30000;
 
 pub const RESULT: usize = 481;
 
-// Puts the first bytes of a file at the start of the buffer, as many as it has space for, and answers how many. A missing file is empty.
-pub fn read_file(name: &[u8], buffer: &mut [u8]) -> usize
+// Puts the first bytes of a file at the start of the buffer, as many as it has space for, and answers how many. A missing file is empty,
+// and so is one that cannot be opened; one whose reading fails ends there.
+pub fn read_file<R: Files>(rt: &R, name: &[u8], buffer: &mut [u8]) -> usize
     ensures { IsPrefixLen result buffer.new }
 {
-    let fd = os::open_read(name);
-    if fd < 0 {
+    let Ok(path) = str::from_utf8(name) else {
         return 0;
-    }
-    let count = io::read_full(fd, buffer);
-    libc::close(fd);
-    count
+    };
+    let Ok(mut file) = fs::open(rt, path) else {
+        return 0;
+    };
+    read_full(&mut file, buffer)
 }
 
-pub fn print_answer(mode: Mode, answer: Answer) {
+// Reads until the buffer is full, the input ends or a read fails.
+fn read_full<F: Read>(file: &mut F, buffer: &mut [u8]) -> usize
+    ensures { IsPrefixLen result buffer.new }
+{
+    let mut done = 0;
+    while done < buffer.len() {
+        let Ok(count) = file.read(&mut buffer[done..]) else {
+            break;
+        };
+        if count == 0 {
+            break;
+        }
+        done += count;
+    }
+    done
+}
+
+pub fn print_answer<R: Print>(rt: &R, mode: Mode, answer: Answer) -> io::Result<()> {
     let mut text = [0u8; 128];
     let count = put_line(mode, answer, &mut text);
-    io::write_all(STDOUT_FILENO, &text[..count]);
+    rt.write_all(&text[..count])
 }
