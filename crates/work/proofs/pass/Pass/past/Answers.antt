@@ -5,14 +5,10 @@ use Rattle.meaning.specs.Numbers.{INPUT, REGISTER}
 use Rattle.work.specs.Passes.{passed}
 use Rattle.work.proofs.pass.Pass.past.Goals as goal
 
--- LEFT overflow-sub-self: let some = c.requires.0 c.if-kind-eq-INPUT.true in omega arith
-
 pub returns-then-kind-eq-INPUT : goal.returns-then-kind-eq-INPUT
 unfolding passed
 returns-then-kind-eq-INPUT c =
     rw (eq-eqb c.args.kind INPUT c.if-kind-eq-INPUT.true)
-
--- LEFT overflow-sub-self-2: let some = c.requires.1 c.if-kind-eq-REGISTER.true in omega arith
 
 pub returns-then-kind-eq-REGISTER : goal.returns-then-kind-eq-REGISTER
 unfolding passed
