@@ -1,9 +1,6 @@
 use mathlib.Core.Path.{refl}
-use Prim.Native.Nat.{◌-◌}
 use native.Mathlib.Omega.{arith}
-use lib.ListN.{length}
-use borrow.Author.Rules.{rules}
-use Rattle.yellopard_c.proofs.Row.{Fills, fills_none, fills_more, fills_all, fills_full}
+use Rattle.yellopard_c.proofs.Row.{fills_none, fills_more, fills_all, fills_full}
 use Rattle.yellopard_c.proofs.put.Goals as goal
 
 pub loop-i-init : goal.loop-i-init

@@ -1,10 +1,7 @@
 -- The numbers so far stand at the front of the row. Assumes nothing.
-use mathlib.Core.Path.{refl}
 use Prim.Native.Nat.{◌-◌}
-use native.Mathlib.Omega.{arith}
 use lib.ListN.{length}
-use borrow.Author.Rules.{rules}
-use Rattle.yellopard_c.proofs.Row.{Fills, fills_none, fills_more, fills_all, fills_full}
+use Rattle.yellopard_c.proofs.Row.{Fills}
 use Rattle.yellopard_c.proofs.put.Given as goal
 
 abbrev pub invariant-loop-i : goal.invariant-loop-i

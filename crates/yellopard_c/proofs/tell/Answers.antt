@@ -1,5 +1,4 @@
 -- The numbers that are put are those of the answer. Assumes nothing.
-use borrow.Author.Rules.{rules}
 use Rattle.meaning.specs.Answer.{row_of}
 use Rattle.answer.specs.Meant.{answer_of}
 use Rattle.yellopard_c.proofs.Row.{told_by}

@@ -1,5 +1,4 @@
 -- A check, with its answer told. Assumes nothing.
-use borrow.Author.Rules.{rules}
 use Rattle.yellopard_c.proofs.yellopard_check.Goals as goal
 
 pub returns : goal.returns

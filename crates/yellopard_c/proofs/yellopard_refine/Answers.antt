@@ -1,5 +1,4 @@
 -- A refinement, with its answer told. Assumes nothing.
-use borrow.Author.Rules.{rules}
 use Rattle.yellopard_c.proofs.yellopard_refine.Goals as goal
 
 pub returns : goal.returns

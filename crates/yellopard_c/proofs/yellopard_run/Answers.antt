@@ -1,5 +1,4 @@
 -- The outputs of a run, with its answer told. Assumes nothing.
-use borrow.Author.Rules.{rules}
 use Rattle.yellopard_c.proofs.yellopard_run.Goals as goal
 
 pub returns : goal.returns

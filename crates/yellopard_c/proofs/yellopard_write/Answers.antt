@@ -1,5 +1,4 @@
 -- The sheet that is written, with its answer told. Assumes nothing.
-use borrow.Author.Rules.{rules}
 use Rattle.yellopard_c.proofs.yellopard_write.Goals as goal
 
 pub returns : goal.returns
