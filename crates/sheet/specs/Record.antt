@@ -7,7 +7,6 @@ use Rattle.answer.specs.Meant.{refusal_of}
 use Rattle.sheet.specs.declared.Sheet.{Sheet}
 use Rattle.sheet.specs.declared.record.Record.{Record}
 use Rattle.sheet.specs.declared.record.Record.TheVariants.{Sound, Faulty}
-use Rattle.sheet.specs.declared.reader.Part.{Part}
 use Rattle.sheet.specs.Stored.{sheet_of, Right}
 
 -- the paper's part, of a sheet and the names read so far
