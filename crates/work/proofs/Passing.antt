@@ -1,4 +1,5 @@
 -- A pass over a side: what its loop keeps, from signal to signal. Assumes nothing.
+use Rattle.std.specs.Prelude.{if◌then◌else◌}
 use mathlib.Core.Path.{◌≡◌, refl, sym, ap, subst, ◌∙◌}
 use mathlib.Core.Bool.{Bool, true, false}
 use mathlib.Core.List.{List}
@@ -8,7 +9,6 @@ use native.Mathlib.Numerals.{add-one}
 use lib.ListN.{length, get_or, take, set}
 use lib.Seq.{length-take-le}
 use Rattle.meaning.specs.Numbers.{INPUT, REGISTER}
-use Rattle.meaning.specs.Basic.{if◌then◌else◌}
 use Rattle.meaning.specs.Sheet as paper
 use Rattle.meaning.specs.Tick.{gate_value}
 use Rattle.meaning.specs.Joint.{ins, total, variables}
