@@ -1,4 +1,5 @@
 -- Laws of the outputs: where they are in the joint list, and when they are paired. Assumes nothing.
+use Rattle.std.specs.Prelude.{if◌then◌else◌}
 use mathlib.Core.Path.{◌≡◌, refl, sym, ap, ◌∙◌}
 use mathlib.Core.Bool.{Bool, true, false, not, ◌&&◌, beq}
 use mathlib.Core.List.{List, map}
@@ -7,7 +8,7 @@ use native.Mathlib.Omega.{arith}
 use lib.ListN.{length, get_or, get_or-map}
 use lib.Dec.{eqb}
 use borrow.Author.Tests.{lt-ltb, le-ltb}
-use Rattle.meaning.specs.Basic.{if◌then◌else◌, bit}
+use Rattle.meaning.specs.Basic.{bit}
 use Rattle.meaning.specs.Sheet as paper
 use Rattle.meaning.specs.Joint.{class, total, polarity, outA, outB, paired, output_fault}
 use Rattle.meaning.specs.Answer.{outputs_verdict}

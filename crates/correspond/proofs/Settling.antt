@@ -5,7 +5,7 @@ use Prim.Native.Nat.{ℕ, ◌+◌, ◌≤◌, ◌<◌}
 use native.Mathlib.Omega.{arith}
 use native.Mathlib.Numerals.{add-one}
 use lib.ListN.{length}
-use Rattle.meaning.specs.Joint.{T, rounds}
+use Rattle.meaning.specs.Joint.{T}
 use Rattle.promises.proofs.Groups.{length-grouping}
 use Rattle.diagram.specs.Words.{room_of}
 use Rattle.diagram.specs.declared.Head.{Head}

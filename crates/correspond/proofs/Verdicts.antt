@@ -10,7 +10,6 @@ use Rattle.meaning.specs.Basic.{same_list}
 use Rattle.meaning.specs.Joint.{total, start_fault, step_fault}
 use Rattle.meaning.specs.Room.{start_count, step_count}
 use Rattle.meaning.specs.Answer as paper
-use Rattle.promises.specs.Calls.{Worked}
 use Rattle.answer.specs.declared.Answer.{Answer}
 use Rattle.answer.specs.declared.Answer.TheVariants.{Undecided, Refused}
 use Rattle.answer.specs.declared.Refusal.TheVariants.{NoRoom}

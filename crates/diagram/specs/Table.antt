@@ -1,6 +1,5 @@
 -- What the words of the table stand for, and when they are in order. Assumes nothing.
-use Rattle.std.specs.Prelude.{◌≡◌, Bool, true, false, List, ℕ, zero, suc, ◌+◌, ◌*◌, ◌<◌, ◌≤◌, eqb}
-use Rattle.meaning.specs.Basic.{if◌then◌else◌}
+use Rattle.std.specs.Prelude.{◌≡◌, Bool, true, false, List, ℕ, zero, suc, ◌+◌, ◌*◌, ◌<◌, ◌≤◌, eqb, if◌then◌else◌}
 use Rattle.tree.specs.Tree.{Tree, leaf, node, glue, Reduced, combine_tree}
 use Rattle.diagram.specs.declared.Op.{Op}
 use Rattle.diagram.specs.Operation.{op_of, code_of, codes, stamps}

@@ -1,7 +1,6 @@
 -- The lists of trees that are worked: one for each signal, and the equalities of a grouping with their running product. Assumes nothing.
-use Rattle.std.specs.Prelude.{true, ◌&&◌, List, [], ◌∷◌, ◌++◌, ℕ, zero, suc, get_or, eqb, ltb}
+use Rattle.std.specs.Prelude.{true, ◌&&◌, List, [], ◌∷◌, ◌++◌, ℕ, zero, suc, get_or, eqb, ltb, if◌then◌else◌}
 use Rattle.std.specs.Bool.{beq}
-use Rattle.meaning.specs.Basic.{if◌then◌else◌}
 use Rattle.meaning.specs.Joint.{first}
 use Rattle.tree.specs.Tree.{Tree, leaf, combine_tree, complement_tree}
 use Rattle.diagram.specs.Table.{tree_at}

@@ -1,4 +1,5 @@
 -- Numbering in order of first member, signal by signal. Assumes nothing.
+use Rattle.std.specs.Prelude.{if◌then◌else◌}
 use mathlib.Core.Path.{◌≡◌, refl, sym, ap, ◌∙◌}
 use mathlib.Core.Bool.{Bool, true, false}
 use mathlib.Core.List.{List, [], ◌∷◌, ◌++◌, append_assoc, append-nil}
@@ -10,7 +11,7 @@ use borrow.Author.Tests.{ltb-true, ltb-false, lt-ltb, le-ltb}
 use lib.ListN.{length, get_or, set, take, length-set, length-append, get_or-append}
 use lib.Seq.{get_or-set_same, get_or-set_other, take-suc-set, take_all, length-take-le, get_or-take, get_or_at}
 use lib.Dec.{ltb}
-use Rattle.meaning.specs.Basic.{if◌then◌else◌, least_from}
+use Rattle.meaning.specs.Basic.{least_from}
 use Rattle.meaning.specs.Joint.{class, place, number_from, grouping}
 use Rattle.laws.proofs.Basic.{case_bool, least_is, least_upto}
 use Rattle.promises.proofs.Groups.{Equivalence, same_class_lem}

@@ -1,11 +1,12 @@
 -- The places of inputs and of registers among their kind. Assumes nothing.
+use Rattle.std.specs.Prelude.{if◌then◌else◌}
 use mathlib.Core.Path.{◌≡◌, refl}
 use mathlib.Core.Bool.{Bool}
 use mathlib.Core.List.{List, [], ◌∷◌}
 use Prim.Native.Nat.{ℕ, zero, suc, ◌+◌, ◌≤◌, ◌<◌}
 use native.Mathlib.Omega.{arith}
 use lib.ListN.{length, get_or, take}
-use Rattle.meaning.specs.Basic.{if◌then◌else◌, bit, keep}
+use Rattle.meaning.specs.Basic.{bit, keep}
 use Rattle.meaning.specs.Sheet.{Signal, input, register, inverter, gate, signal_is_input, signal_is_register, inputs, registers}
 use Rattle.meaning.specs.Tick.{initial, sources}
 use Rattle.laws.proofs.Basic.{case_bool}

@@ -1,7 +1,7 @@
 -- The functions of the start list and of the step list, by name. Assumes nothing.
-use Rattle.std.specs.Prelude.{◌≡◌, Bool, true, ◌&&◌, List, ℕ, zero, suc, ◌<◌, ltb}
+use Rattle.std.specs.Prelude.{◌≡◌, Bool, true, ◌&&◌, List, ℕ, zero, suc, ◌<◌, ltb, if◌then◌else◌}
 use Rattle.std.specs.Bool.{beq}
-use Rattle.meaning.specs.Basic.{if◌then◌else◌, bit}
+use Rattle.meaning.specs.Basic.{bit}
 use Rattle.meaning.specs.Sheet.{Sheet}
 use Rattle.meaning.specs.Joint.{first, total, variables, f, h, s0, after, state_of, x_of, y_of, Q}
 use Rattle.tree.specs.Tree.{Tree}

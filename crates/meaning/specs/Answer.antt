@@ -1,7 +1,7 @@
 -- What is answered, and what first: the four calls, write, run, check and refine. Assumes nothing.
-use Rattle.std.specs.Prelude.{ℕ, suc, ◌+◌, ◌*◌, ◌^◌, max, true, false, not, List, [], ◌∷◌, ◌++◌, map, length, drop, eqb, ltb, leb}
+use Rattle.std.specs.Prelude.{ℕ, suc, ◌+◌, ◌*◌, ◌^◌, max, true, false, not, List, [], ◌∷◌, ◌++◌, map, length, drop, eqb, ltb, leb, if◌then◌else◌}
 use Rattle.meaning.specs.Numbers.{Refusal, UNLIKE, OUT, VECTOR, NO_ROOM, number_of, File, file_A, file_B, file_grouping, no_file, number_of_file, Reason, START, STEP, OUTPUTS, number_of_reason}
-use Rattle.meaning.specs.Basic.{if◌then◌else◌, bits_of, from_bits, up_from}
+use Rattle.meaning.specs.Basic.{bits_of, from_bits, up_from}
 use Rattle.meaning.specs.Sheet.{Sheet, Read, refused, value, inputs, reading_of_sheet, reading_of_classes, bytes_of_sheet, bytes_of_classes}
 use Rattle.meaning.specs.Tick.{outputs_of}
 use Rattle.meaning.specs.Joint.{total, start_fault, step_fault, output_fault, T, rounds}

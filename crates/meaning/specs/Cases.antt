@@ -1,5 +1,5 @@
 -- The marked cases, as one table, and the statement that each call has the outcome that the table says. Assumes nothing.
-use Rattle.std.specs.Prelude.{ℕ, ◌+◌, ◌*◌, ◌≡◌, refl, List, [], ◌∷◌, ◌++◌, map, replicate}
+use Rattle.std.specs.Prelude.{ℕ, ◌*◌, ◌≡◌, refl, List, [], ◌∷◌, ◌++◌, map, replicate}
 use Rattle.meaning.specs.Numbers.{SHORT, AFTER, NO_OUTPUT, DANGLING, NO_ROOM, file_A, no_file, START, STEP, OUTPUTS}
 use Rattle.meaning.specs.Basic.{up_from, least_from, same_list, keep, concat_map, pairwise, all_true, bits_of, from_bits, every}
 use Rattle.meaning.specs.Sheet.{signal_is_input, signal_is_register, inputs, registers, part_of_nothing, body_of, kind_is_unknown, exceeds_limits, operand_not_lower, first_fault, fault_of, signal_of, add, named, ending, read_from, reading_of_sheet, read_classes_from, reading_of_classes, gate_kind, bytes_of_signal, bytes_of_output, bytes_of_sheet, bytes_of_classes}

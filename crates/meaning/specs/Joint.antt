@@ -1,7 +1,7 @@
 -- Correspondence: polarity, groupings, Start, Step, paired outputs, and the groupings T that refining goes through. Assumes nothing.
-use Rattle.std.specs.Prelude.{ℕ, zero, suc, ◌+◌, Bool, true, false, not, ◌&&◌, ◌||◌, List, [], ◌∷◌, ◌++◌, map, length, get_or, take, drop, replicate, eqb, ltb}
+use Rattle.std.specs.Prelude.{ℕ, zero, suc, ◌+◌, Bool, true, false, not, ◌&&◌, ◌||◌, List, [], ◌∷◌, ◌++◌, map, length, get_or, take, drop, replicate, eqb, ltb, if◌then◌else◌}
 use Rattle.std.specs.Bool.{beq}
-use Rattle.meaning.specs.Basic.{if◌then◌else◌, bit, up_from, least_from, same_list, keep, pairwise, all_true, every}
+use Rattle.meaning.specs.Basic.{bit, up_from, least_from, same_list, keep, pairwise, all_true, every}
 use Rattle.meaning.specs.Sheet.{Sheet, inputs, registers}
 use Rattle.meaning.specs.Tick.{values, initial, taken}
 

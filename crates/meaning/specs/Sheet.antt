@@ -1,7 +1,7 @@
 -- Sheets and groupings: what a file says, or where it is refused; and how they are written. Assumes nothing.
-use Rattle.std.specs.Prelude.{ℕ, zero, suc, ◌+◌, Bool, true, false, ◌&&◌, ◌||◌, List, [], ◌∷◌, ◌++◌, length, get_or, eqb, ltb, leb}
+use Rattle.std.specs.Prelude.{ℕ, zero, suc, ◌+◌, Bool, true, false, ◌&&◌, ◌||◌, List, [], ◌∷◌, ◌++◌, length, get_or, eqb, ltb, leb, if◌then◌else◌}
 use Rattle.meaning.specs.Numbers.{INPUT, REGISTER, NOT, AND, OR, XOR, OUTPUT, END, CLASS, max_inputs, max_registers, max_signals, max_outputs, Refusal, SHORT, KIND, MANY, VALUE, LATER, AFTER, NO_OUTPUT, DANGLING, COUNT}
-use Rattle.meaning.specs.Basic.{if◌then◌else◌, keep, concat_map}
+use Rattle.meaning.specs.Basic.{keep, concat_map}
 
 -- the gates of two operands
 pub data Gate : Type 0 where

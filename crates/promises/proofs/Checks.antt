@@ -11,7 +11,7 @@ use lib.Dec.{ltb}
 use borrow.Author.Tests.{ltb-true, ltb-false, lt-ltb, le-ltb}
 use Rattle.meaning.specs.Numbers.{OUTPUTS}
 use Rattle.meaning.specs.Sheet.{Sheet}
-use Rattle.meaning.specs.Joint.{class, first, total, start_same, step_same, start_fault, step_fault, paired, output_fault}
+use Rattle.meaning.specs.Joint.{first, total, start_same, step_same, start_fault, step_fault, output_fault}
 use Rattle.meaning.specs.Room.{start_count, step_count}
 use Rattle.meaning.specs.Answer.{Answer, equivalent, undecided, outputs_verdict, check_verdict}
 use Rattle.laws.proofs.Basic.{case_bool}

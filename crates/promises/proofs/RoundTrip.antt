@@ -1,4 +1,5 @@
 -- The round trip: what the sheet writer wrote of a sheet that was read is read back as that sheet. Assumes nothing.
+use Rattle.std.specs.Prelude.{if◌then◌else◌}
 use mathlib.Core.Path.{◌≡◌, refl, sym}
 use mathlib.Core.Bool.{Bool, true, false}
 use mathlib.Core.List.{List, [], ◌∷◌, ◌++◌, append_assoc, append-nil}
@@ -8,7 +9,7 @@ use lib.ListN.{length, get_or, drop, length-append}
 use lib.Dec.{eqb}
 use borrow.Author.Rules.{rules}
 use Rattle.meaning.specs.Numbers.{INPUT, REGISTER, NOT, OUTPUT, END, max_inputs, max_registers, max_signals, max_outputs}
-use Rattle.meaning.specs.Basic.{if◌then◌else◌, concat_map}
+use Rattle.meaning.specs.Basic.{concat_map}
 use Rattle.meaning.specs.Sheet.{Gate, Signal, input, register, inverter, gate, Output, Sheet, value, Part, part_of_nothing, inputs, registers, body_of, signal_of, add, reading_of_sheet, gate_kind, bytes_of_signal, bytes_of_output, bytes_of_sheet}
 use Rattle.promises.specs.Proper.{Fits, SignalsFit, OutputsFit, Proper}
 use Rattle.promises.specs.Reading.{Whole, Binary, Sound, Comes, begin, onward, NamedBelow}

@@ -1,4 +1,5 @@
 -- The rounds: each T splits the one before, they settle in fewer rounds than there are signals, and stay settled. Assumes nothing.
+use Rattle.std.specs.Prelude.{if◌then◌else◌}
 use mathlib.Core.Path.{◌≡◌, sym, ap, ◌∙◌, subst}
 use mathlib.Core.Bool.{Bool, true, false}
 use mathlib.Core.List.{List}
@@ -7,7 +8,7 @@ use native.Mathlib.Omega.{arith}
 use lib.ListN.{length}
 use lib.Dec.{eqb, ltb}
 use borrow.Author.Tests.{ltb-true, ltb-false, eqb-true, eqb-false, eq-eqb}
-use Rattle.meaning.specs.Basic.{if◌then◌else◌, same_list}
+use Rattle.meaning.specs.Basic.{same_list}
 use Rattle.meaning.specs.Sheet.{Sheet}
 use Rattle.meaning.specs.Joint.{class, first, total, T, rounds}
 use Rattle.laws.proofs.Basic.{case_bool, true_false, least_is, same_list-eq, same_list_refl}

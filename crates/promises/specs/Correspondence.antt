@@ -3,7 +3,7 @@ use Rattle.std.specs.Prelude.{◌≡◌, Bool, List, [], ◌∷◌, ℕ, ◌<◌
 use Rattle.meaning.specs.Basic.{bit}
 use Rattle.meaning.specs.Sheet.{Sheet, inputs}
 use Rattle.meaning.specs.Tick.{outputs_of}
-use Rattle.meaning.specs.Joint.{class, first, regs, ins, total, s0, h, after, outA, outB, polarity}
+use Rattle.meaning.specs.Joint.{class, regs, ins, total, s0, h, after, outA, outB, polarity}
 
 -- each element of a list has k elements itself: what k inputs are given at each tick of a run
 abbrev pub Sized : ℕ → List (List Bool) → Type 0

@@ -1,7 +1,7 @@
 -- One more record: what has been read is then the paper's part with that record added. Assumes nothing.
 use mathlib.Core.Path.{◌≡◌, refl, ap, ◌∙◌}
 use mathlib.Core.List.{[], ◌∷◌, ◌++◌}
-use Prim.Native.Nat.{ℕ, ◌+◌, ◌<◌}
+use Prim.Native.Nat.{ℕ, ◌<◌}
 use native.Mathlib.Omega.{arith}
 use lib.Seq.{get_or-set_same, get_or-set_other}
 use borrow.Author.Tests.{eq-eqb, ne_eqb}

@@ -17,7 +17,6 @@ use Rattle.answer.specs.declared.Refusal.TheVariants.{Out}
 use Rattle.answer.specs.declared.File.TheVariants.{A, Nothing}
 use Rattle.answer.specs.declared.Answer.{Answer}
 use Rattle.answer.specs.declared.Answer.TheVariants as answer
-use Rattle.sheet.specs.declared.Sheet.{Sheet}
 use Rattle.sheet.specs.declared.Reading.TheVariants.{Good, Refused}
 use Rattle.sheet.specs.declared.Found.{Found}
 use Rattle.sheet.specs.Stored.{sheet_of}

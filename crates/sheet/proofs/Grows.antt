@@ -1,4 +1,5 @@
 -- One more signal or output: what a sheet then is, and that it is kept right. Assumes nothing.
+use Rattle.std.specs.Prelude.{if◌then◌else◌}
 use mathlib.Core.Path.{◌≡◌, sym, ap, ◌∙◌, subst}
 use mathlib.Core.Bool.{Bool}
 use mathlib.Core.List.{List, [], ◌∷◌, ◌++◌, map, map-append}
@@ -9,7 +10,7 @@ use lib.Dec.{eqb, ltb}
 use lib.Seq.{get_or-set_same, get_or-set_other}
 use borrow.Author.Tests.{ltb-true, ltb-false, eqb-true}
 use Rattle.meaning.specs.Numbers.{INPUT, REGISTER, OUTPUT, max_inputs, max_registers, max_outputs}
-use Rattle.meaning.specs.Basic.{if◌then◌else◌, keep}
+use Rattle.meaning.specs.Basic.{keep}
 use Rattle.meaning.specs.Sheet as paper
 use Rattle.laws.proofs.Basic.{case_bool}
 use Rattle.sheet.specs.declared.Signal.{Signal}

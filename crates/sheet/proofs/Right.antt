@@ -1,10 +1,10 @@
 -- Laws of a signal's record: which signal each kind defines, and that right records of one signal are one. Assumes nothing.
+use Rattle.std.specs.Prelude.{if◌then◌else◌}
 use mathlib.Core.Path.{◌≡◌, refl, sym, ap, ◌∙◌}
 use Prim.Native.Nat.{ℕ, zero, suc, ◌≤◌}
 use native.Mathlib.Omega.{arith}
 use lib.Dec.{eqb}
 use Rattle.meaning.specs.Numbers.{INPUT, REGISTER, NOT, AND, OR, XOR}
-use Rattle.meaning.specs.Basic.{if◌then◌else◌}
 use Rattle.meaning.specs.Sheet as paper
 use Rattle.sheet.specs.declared.Signal.{Signal}
 use Rattle.sheet.specs.Stored.{signal_of, Right}

@@ -1,7 +1,6 @@
 -- What has been read so far: the sheet and the records that name a signal, as the paper adds them, up to END. Assumes nothing.
-use Rattle.std.specs.Prelude.{ℕ, ◌+◌, ◌<◌, ◌≡◌, List, map, length, get_or, take, set, replicate, eqb}
+use Rattle.std.specs.Prelude.{ℕ, ◌+◌, ◌<◌, ◌≡◌, List, map, length, get_or, take, set, replicate, eqb, if◌then◌else◌}
 use Rattle.meaning.specs.Numbers.{INPUT, REGISTER, max_registers, max_outputs}
-use Rattle.meaning.specs.Basic.{if◌then◌else◌}
 use Rattle.meaning.specs.Sheet as paper
 use Rattle.sheet.specs.declared.Sheet.{Sheet}
 use Rattle.sheet.specs.declared.Reading.{Reading}

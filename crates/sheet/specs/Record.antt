@@ -1,13 +1,11 @@
 -- One record: it is judged as the paper says, over the sheet so far. Assumes nothing.
-use Rattle.std.specs.Prelude.{ℕ, ◌<◌, ◌≡◌, Bool, ◌&&◌, ◌||◌, List, length, get_or, drop, eqb, leb}
+use Rattle.std.specs.Prelude.{ℕ, ◌<◌, ◌≡◌, Bool, ◌&&◌, ◌||◌, List, length, get_or, drop, eqb, leb, if◌then◌else◌}
 use Rattle.meaning.specs.Numbers.{INPUT, REGISTER, NOT, AND, XOR, OUTPUT, END, max_inputs, max_registers, max_signals, max_outputs}
-use Rattle.meaning.specs.Basic.{if◌then◌else◌}
 use Rattle.meaning.specs.Sheet as paper
 use Rattle.answer.specs.Meant.{refusal_of}
 use Rattle.sheet.specs.declared.Sheet.{Sheet}
 use Rattle.sheet.specs.declared.record.Record.{Record}
 use Rattle.sheet.specs.declared.record.Record.TheVariants.{Sound, Faulty}
-use Rattle.sheet.specs.declared.reader.Part.{Part}
 use Rattle.sheet.specs.Stored.{sheet_of, Right}
 
 -- the paper's part, of a sheet and the names read so far

@@ -1,7 +1,6 @@
 -- Writing: the bytes of a record, what is put into a buffer, and what a call answers and leaves there. Assumes nothing.
-use Rattle.std.specs.Prelude.{ℕ, ◌+◌, ◌≡◌, List, [], ◌∷◌, length, eqb}
+use Rattle.std.specs.Prelude.{ℕ, ◌+◌, ◌≡◌, List, [], ◌∷◌, length, eqb, if◌then◌else◌}
 use Rattle.std.proofs.lemmas.List.Edits.{sets}
-use Rattle.meaning.specs.Basic.{if◌then◌else◌}
 use Rattle.meaning.specs.Sheet as paper
 use Rattle.meaning.specs.Answer.{Outcome, result_after}
 use Rattle.answer.specs.Meant.{answer_of}

@@ -1,4 +1,5 @@
 -- Laws of the bits of a vector and of an output number. Assumes nothing.
+use Rattle.std.specs.Prelude.{if◌then◌else◌}
 use Prim.Native.Nat.{ℕ, zero, suc, ◌+◌, ◌*◌, ◌/◌, ◌%◌, ◌^◌, ◌<◌, ◌≤◌}
 use mathlib.Core.Path.{◌≡◌, refl, ap, ◌∙◌}
 use mathlib.Core.Bool.{Bool, true, false}
@@ -9,7 +10,7 @@ use native.Mathlib.Omega.{arith}
 use lib.Dec.{eqb}
 use lib.ListN.{length, get_or-eq_default}
 use lib.Pow.{shr-shr, shr_lt}
-use Rattle.meaning.specs.Basic.{if◌then◌else◌, bit, bits_of, from_bits}
+use Rattle.meaning.specs.Basic.{bit, bits_of, from_bits}
 
 -- ## A vector's
 

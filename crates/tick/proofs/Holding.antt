@@ -1,4 +1,5 @@
 -- Laws of what the registers hold, and what holds at every turn of a loop that gives each register its value. Assumes nothing.
+use Rattle.std.specs.Prelude.{if◌then◌else◌}
 use Prim.Native.Nat.{ℕ, zero, suc, ◌+◌, ◌<◌, ◌≤◌}
 use mathlib.Core.Path.{◌≡◌, refl, ap, ◌∙◌}
 use mathlib.Core.Bool.{Bool, true, false}
@@ -11,7 +12,7 @@ use lib.ListN.{length, get_or, take, length-map}
 use lib.Seq.{take_all}
 use Rattle.laws.proofs.Basic.{case_bool}
 use Rattle.meaning.specs.Numbers.{REGISTER, max_registers}
-use Rattle.meaning.specs.Basic.{if◌then◌else◌, bit, keep}
+use Rattle.meaning.specs.Basic.{bit, keep}
 use Rattle.meaning.specs.Sheet as paper
 use Rattle.meaning.specs.Tick.{initial, sources, taken}
 use Rattle.sheet.specs.declared.Sheet.{Sheet}

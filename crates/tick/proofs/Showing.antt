@@ -1,4 +1,5 @@
 -- Laws of an output number: how it is put together, and what holds at every turn of the loop that does it. Assumes nothing.
+use Rattle.std.specs.Prelude.{if◌then◌else◌}
 use Prim.Native.Nat.{ℕ, ◌+◌, ◌*◌, ◌%◌, ◌^◌, ◌<◌, ◌≤◌}
 use mathlib.Core.Path.{◌≡◌, refl, ap, ◌∙◌}
 use mathlib.Core.Bool.{Bool, true, false}
@@ -11,7 +12,7 @@ use lib.Pow.{shl_exact}
 use lib.Seq.{take_all, take-suc, length-take-le}
 use mir.Val.{bool_byte}
 use Rattle.meaning.specs.Numbers.{max_outputs}
-use Rattle.meaning.specs.Basic.{if◌then◌else◌, bit, from_bits}
+use Rattle.meaning.specs.Basic.{bit, from_bits}
 use Rattle.meaning.specs.Sheet as paper
 use Rattle.meaning.specs.Tick.{shown}
 use Rattle.sheet.specs.declared.Sheet.{Sheet}

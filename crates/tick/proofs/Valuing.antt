@@ -1,4 +1,5 @@
 -- Laws of the values of a tick, and what holds at every turn of the loop that computes them. Assumes nothing.
+use Rattle.std.specs.Prelude.{if◌then◌else◌}
 use Prim.Native.Nat.{ℕ, zero, suc, ◌+◌, ◌<◌, ◌≤◌}
 use mathlib.Core.Path.{◌≡◌, refl, sym, ap, ◌∙◌}
 use mathlib.Core.Bool.{Bool, true, false}
@@ -12,7 +13,7 @@ use lib.Seq.{drop-cons, get_or-drop}
 use mir.Val.{bool_byte}
 use Rattle.laws.proofs.Basic.{case_bool}
 use Rattle.meaning.specs.Numbers.{INPUT, REGISTER, NOT, AND, OR, max_signals}
-use Rattle.meaning.specs.Basic.{if◌then◌else◌, bit}
+use Rattle.meaning.specs.Basic.{bit}
 use Rattle.meaning.specs.Sheet as paper
 use Rattle.meaning.specs.Tick.{values_from, values}
 use Rattle.sheet.specs.declared.Signal.{Signal}

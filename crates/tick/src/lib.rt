@@ -1,9 +1,9 @@
 // A run of one sheet, tick by tick.
 #![tactic(auto)]
 
-ghost use Rattle.std.specs.Prelude.{◌≡◌, false, not, [], ◌++◌, ◌+◌, ◌^◌, ◌<◌, ◌≤◌, ltb, eqb, length, drop};
+ghost use Rattle.std.specs.Prelude.{◌≡◌, false, not, [], ◌++◌, ◌+◌, ◌^◌, ◌<◌, ◌≤◌, ltb, eqb, length, drop, if◌then◌else◌};
 ghost use Rattle.meaning.specs.Numbers.{REGISTER, max_inputs, max_registers, max_signals, max_outputs};
-ghost use Rattle.meaning.specs.Basic.{if◌then◌else◌, bit, bits_of, from_bits};
+ghost use Rattle.meaning.specs.Basic.{bit, bits_of, from_bits};
 ghost use Rattle.meaning.specs.Tick.{values, initial, taken, shown};
 ghost use Rattle.meaning.specs.Answer.{bad_vector_place};
 ghost use Rattle.sheet.specs.Stored.{signal_of, sheet_of, Whole};

@@ -1,9 +1,8 @@
 -- Reduced decision trees, and what two of them make under an operation. Assumes nothing.
-use Rattle.std.specs.Prelude.{◌≡◌, Bool, false, ℕ, ◌<◌, eqb, ltb}
+use Rattle.std.specs.Prelude.{◌≡◌, Bool, false, ℕ, ◌<◌, eqb, ltb, if◌then◌else◌}
 use Rattle.std.specs.Bool.{beq}
 use Rattle.std.proofs.Math.Bool.{Bool-discrete}
 use Rattle.std.proofs.Math.Decide.{ℕ_discrete}
-use Rattle.meaning.specs.Basic.{if◌then◌else◌}
 
 -- A constant, or a test of the variable at a height: the tree where it is 0, and the tree where it is 1.
 pub data Tree : Type 0 where

@@ -1,4 +1,5 @@
 -- f of the joint list at a moment, and the same normalised. Assumes nothing.
+use Rattle.std.specs.Prelude.{if◌then◌else◌}
 use mathlib.Core.Path.{◌≡◌, refl, sym, ap, ap₂, subst, ◌∙◌}
 use mathlib.Core.Bool.{Bool, true, false, beq}
 use mathlib.Core.List.{List, ◌++◌}
@@ -7,7 +8,7 @@ use native.Mathlib.Omega.{arith}
 use lib.ListN.{length, take}
 use lib.Seq.{length-take-le, get_or-take}
 use lib.Dec.{eqb}
-use Rattle.meaning.specs.Basic.{if◌then◌else◌, bit}
+use Rattle.meaning.specs.Basic.{bit}
 use Rattle.meaning.specs.Sheet as paper
 use Rattle.meaning.specs.Joint.{total, variables, polarity}
 use Rattle.tree.specs.Tree.{Tree}

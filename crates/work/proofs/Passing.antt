@@ -1,14 +1,14 @@
 -- A pass over a side: what its loop keeps, from signal to signal. Assumes nothing.
+use Rattle.std.specs.Prelude.{if◌then◌else◌}
 use mathlib.Core.Path.{◌≡◌, refl, sym, ap, subst, ◌∙◌}
 use mathlib.Core.Bool.{Bool, true, false}
 use mathlib.Core.List.{List}
-use Prim.Native.Nat.{ℕ, ◌+◌, ◌-◌, ◌<◌, ◌≤◌}
+use Prim.Native.Nat.{ℕ, ◌+◌, ◌<◌, ◌≤◌}
 use native.Mathlib.Omega.{arith}
 use native.Mathlib.Numerals.{add-one}
 use lib.ListN.{length, get_or, take, set}
 use lib.Seq.{length-take-le}
 use Rattle.meaning.specs.Numbers.{INPUT, REGISTER}
-use Rattle.meaning.specs.Basic.{if◌then◌else◌}
 use Rattle.meaning.specs.Sheet as paper
 use Rattle.meaning.specs.Tick.{gate_value}
 use Rattle.meaning.specs.Joint.{ins, total, variables}
@@ -16,7 +16,7 @@ use Rattle.promises.specs.Proper.{Fits, Proper}
 use Rattle.tree.specs.Tree.{Tree, combine_tree, complement_tree}
 use Rattle.tree.proofs.Function.{for_height}
 use Rattle.lists.specs.Lists as lists
-use Rattle.lists.specs.Recipes.{made, tree_of, nth_signal, Side, left, right, Compatible, sheet_on, signals_before, register_tree, recipe_tree}
+use Rattle.lists.specs.Recipes.{tree_of, nth_signal, Side, left, right, Compatible, sheet_on, signals_before, register_tree, recipe_tree}
 use Rattle.lists.proofs.Values.{made_same, proper_fits}
 use Rattle.lists.proofs.Places.{inputs-next, registers-next, input-place, register-place}
 use Rattle.lists.proofs.Sides.{joint_below, register_below, input_below, inputs_on}

@@ -1,7 +1,7 @@
 -- What it is to work a list of two sheets in the table. Assumes nothing.
-use Rattle.std.specs.Prelude.{◌≡◌, List, ◌↔◌, ℕ, ◌*◌, ◌≤◌, ◌<◌, max, length, get_or}
+use Rattle.std.specs.Prelude.{◌≡◌, List, ◌↔◌, ℕ, ◌*◌, ◌≤◌, ◌<◌, max, length, get_or, if◌then◌else◌}
 use Rattle.meaning.specs.Numbers.{max_signals}
-use Rattle.meaning.specs.Basic.{if◌then◌else◌, bit}
+use Rattle.meaning.specs.Basic.{bit}
 use Rattle.meaning.specs.Sheet as paper
 use Rattle.meaning.specs.Joint.{total, polarity}
 use Rattle.meaning.specs.Room.{start_count, step_count}

@@ -1,7 +1,6 @@
 -- A pass over one sheet: the trees of its signals at a moment, and what is asked to make them in the table. Assumes nothing.
-use Rattle.std.specs.Prelude.{◌≡◌, Bool, true, false, List, ℕ, ◌+◌, ◌-◌, ◌<◌, ◌≤◌, length, get_or, take, eqb}
+use Rattle.std.specs.Prelude.{◌≡◌, Bool, true, false, List, ℕ, ◌+◌, ◌-◌, ◌<◌, ◌≤◌, length, get_or, take, eqb, if◌then◌else◌}
 use Rattle.meaning.specs.Numbers.{INPUT, REGISTER, NOT, AND, OR, XOR}
-use Rattle.meaning.specs.Basic.{if◌then◌else◌}
 use Rattle.meaning.specs.Sheet as paper
 use Rattle.meaning.specs.Joint.{total, variables}
 use Rattle.tree.specs.Tree.{Tree, leaf, glue}

@@ -1,4 +1,5 @@
 -- Laws of putting values as 1 and 0. Assumes nothing.
+use Rattle.std.specs.Prelude.{if◌then◌else◌}
 use mathlib.Core.Path.{◌≡◌, refl, ◌∙◌}
 use mathlib.Core.Bool.{Bool, true, false}
 use mathlib.Core.List.{List}
@@ -9,7 +10,7 @@ use lib.ListN.{length, get_or, set, length-set}
 use lib.Seq.{get_or-set_same, get_or-set_other}
 use lib.Dec.{eqb}
 use borrow.Author.Tests.{eqb-true, eqb-false}
-use Rattle.meaning.specs.Basic.{if◌then◌else◌, bit}
+use Rattle.meaning.specs.Basic.{bit}
 use Rattle.laws.proofs.Basic.{case_bool}
 use Rattle.yellopard.specs.Calls.{PlainPut}
 

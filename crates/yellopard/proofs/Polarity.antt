@@ -1,4 +1,5 @@
 -- The polarities of two sheets, put one sheet after the other, are those of their joint list. Assumes nothing.
+use Rattle.std.specs.Prelude.{if◌then◌else◌}
 use mathlib.Core.Path.{◌≡◌, ◌∙◌}
 use mathlib.Core.Bool.{Bool, false}
 use mathlib.Core.List.{List}
@@ -6,7 +7,7 @@ use Prim.Native.Nat.{ℕ, ◌+◌, ◌*◌, ◌<◌}
 use native.Mathlib.Omega.{arith}
 use lib.ListN.{length, get_or, replicate}
 use Rattle.meaning.specs.Numbers.{max_inputs, max_signals}
-use Rattle.meaning.specs.Basic.{if◌then◌else◌, bit, bits_of}
+use Rattle.meaning.specs.Basic.{bit, bits_of}
 use Rattle.meaning.specs.Sheet as paper
 use Rattle.meaning.specs.Tick.{values, initial}
 use Rattle.meaning.specs.Joint.{ins, polarity}

@@ -1,5 +1,4 @@
 -- Each case's number is the paper's. Assumes nothing.
-use borrow.Author.Rules.{rules}
 use Rattle.meaning.specs.Numbers.{number_of_file}
 use Rattle.answer.specs.Meant.{file_of}
 use Rattle.answer.proofs.file_number.Goals as goal

@@ -1,5 +1,4 @@
 -- Each case's number is the paper's. Assumes nothing.
-use borrow.Author.Rules.{rules}
 use Rattle.meaning.specs.Numbers.{number_of}
 use Rattle.answer.specs.Meant.{refusal_of}
 use Rattle.answer.proofs.number.Goals as goal

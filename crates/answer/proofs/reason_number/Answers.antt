@@ -1,5 +1,4 @@
 -- Each case's number is the paper's. Assumes nothing.
-use borrow.Author.Rules.{rules}
 use Rattle.meaning.specs.Numbers.{number_of_reason}
 use Rattle.answer.specs.Meant.{reason_of}
 use Rattle.answer.proofs.reason_number.Goals as goal

@@ -1,11 +1,7 @@
 -- The reading goes on while the records are CLASS records, and ends where one is not. Assumes nothing.
-use Prim.Native.Nat.{◌+◌, ◌-◌, ◌≤◌}
-use native.Mathlib.Omega.{arith}
-use borrow.Author.Rules.{rules}
-use lib.ListN.{length, drop, length-drop}
-use lib.Seq.{take_all}
-use Rattle.classes.specs.Grouping.{Recorded}
-use Rattle.classes.proofs.Judging.{Judging, judging_start, judging_class, judging_last}
+use Prim.Native.Nat.{◌-◌}
+use lib.ListN.{length}
+use Rattle.classes.proofs.Judging.{Judging}
 use Rattle.classes.proofs.judge.Given as goal
 
 abbrev pub invariant-loop-reading : goal.invariant-loop-reading

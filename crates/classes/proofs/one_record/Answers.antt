@@ -1,7 +1,6 @@
 -- Each way out of a record is the one that `read_classes_from` takes. Assumes nothing.
 use mathlib.Core.Path.{◌∙◌}
 use native.Mathlib.Omega.{arith}
-use borrow.Author.Rules.{rules}
 use Rattle.answer.specs.Meant.{refusal_of}
 use Rattle.classes.specs.Grouping.{Recorded}
 use Rattle.classes.proofs.Records.{nothing_left, class_cut, unknown, end_after, end_count, end_whole}

@@ -1,6 +1,5 @@
 -- The file is judged first, and the classes are stored only where it is good. Assumes nothing.
 use Rattle.classes.proofs.Judging.{grouped_good, grouped_refused}
-use borrow.Author.Rules.{rules}
 use Rattle.classes.proofs.read_classes.Goals as goal
 
 pub returns-in_default : goal.returns-in_default

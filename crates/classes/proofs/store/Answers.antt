@@ -1,8 +1,6 @@
-use Prim.Native.Nat.{◌-◌, ◌≤◌}
-use mathlib.Core.Path.{◌≡◌, refl}
-use mathlib.Core.List.{◌++◌}
+use mathlib.Core.Path.{refl}
 use native.Mathlib.Omega.{arith}
-use lib.ListN.{length, drop, length-set}
+use lib.ListN.{length-set}
 use Rattle.classes.specs.Grouping.{classes_in}
 use Rattle.classes.proofs.Filling.{classes_more, classes_all}
 use Rattle.classes.proofs.store.Goals as goal

@@ -1,11 +1,9 @@
 -- After i turns the first i classes are the file's. Assumes nothing.
 use Prim.Native.Nat.{◌-◌, ◌≤◌}
-use mathlib.Core.Path.{◌≡◌, refl}
+use mathlib.Core.Path.{◌≡◌}
 use mathlib.Core.List.{◌++◌}
-use native.Mathlib.Omega.{arith}
-use lib.ListN.{length, drop, length-set}
+use lib.ListN.{length, drop}
 use Rattle.classes.specs.Grouping.{classes_in}
-use Rattle.classes.proofs.Filling.{classes_more, classes_all}
 use Rattle.classes.proofs.store.Given as goal
 
 abbrev pub invariant-loop-i : goal.invariant-loop-i

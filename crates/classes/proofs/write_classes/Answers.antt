@@ -1,9 +1,7 @@
-use Prim.Native.Nat.{◌*◌, ◌-◌, ◌≤◌}
-use mathlib.Core.Path.{◌≡◌, refl, ap, ◌∙◌}
-use mathlib.Core.List.{◌++◌}
+use mathlib.Core.Path.{refl, ap, ◌∙◌}
 use native.Mathlib.Omega.{arith}
-use lib.ListN.{length, drop, length-set}
-use Rattle.classes.proofs.Filling.{records, written_none, written_more, written_all}
+use lib.ListN.{length, length-set}
+use Rattle.classes.proofs.Filling.{written_none, written_more, written_all}
 use Rattle.classes.proofs.write_classes.Goals as goal
 
 pub loop-i-init : goal.loop-i-init

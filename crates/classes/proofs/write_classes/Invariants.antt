@@ -1,10 +1,9 @@
 -- After i turns the first i records stand at the front, and END follows the last. Assumes nothing.
 use Prim.Native.Nat.{◌*◌, ◌-◌, ◌≤◌}
-use mathlib.Core.Path.{◌≡◌, refl, ap, ◌∙◌}
+use mathlib.Core.Path.{◌≡◌}
 use mathlib.Core.List.{◌++◌}
-use native.Mathlib.Omega.{arith}
-use lib.ListN.{length, drop, length-set}
-use Rattle.classes.proofs.Filling.{records, written_none, written_more, written_all}
+use lib.ListN.{length, drop}
+use Rattle.classes.proofs.Filling.{records}
 use Rattle.classes.proofs.write_classes.Given as goal
 
 abbrev pub invariant-loop-i : goal.invariant-loop-i

@@ -1,7 +1,6 @@
 -- Stage by stage. Assumes nothing.
 use native.Mathlib.Omega.{arith}
 use mathlib.Core.Path.{refl, ◌∙◌}
-use borrow.Author.Rules.{rules}
 use Rattle.correspond.proofs.Verdicts.{front_done, front_over, ready_done, check_no_start, started, check-start, passed, check_no_step, step_over, fronted, ids_long, stepped, check-step, check_outputs}
 use Rattle.correspond.proofs.check_pair.Goals as goal
 

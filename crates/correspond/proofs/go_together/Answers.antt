@@ -1,5 +1,4 @@
 -- Two tests, on the classes and on the polarities. Assumes nothing.
-use borrow.Author.Rules.{rules}
 use Rattle.groups.proofs.Same.{same_ids, same_not}
 use Rattle.correspond.proofs.go_together.Goals as goal
 

@@ -1,6 +1,5 @@
 -- The step list, the split, whether anything was split, and what is forgotten then. Assumes nothing.
 use mathlib.Core.Path.{sym, ◌∙◌}
-use borrow.Author.Rules.{rules}
 use Rattle.correspond.proofs.Pairing.{few_signals}
 use Rattle.correspond.proofs.Verdicts.{holds_done, round_over, ids_long, round_stays, round_splits}
 use Rattle.correspond.proofs.one_round.Goals as goal

@@ -1,5 +1,4 @@
 -- The least unpaired output, or none. Assumes nothing.
-use borrow.Author.Rules.{rules}
 use native.Mathlib.Omega.{arith}
 use Rattle.correspond.proofs.Pairing.{pair_shown, outputs_unpaired, outputs_paired}
 use Rattle.correspond.proofs.outputs.Goals as goal

@@ -1,7 +1,6 @@
 -- Stage by stage. Assumes nothing.
 use mathlib.Core.Path.{sym, ◌∙◌}
 use native.Mathlib.Omega.{arith}
-use borrow.Author.Rules.{rules}
 use Rattle.correspond.proofs.Pairing.{few_signals}
 use Rattle.correspond.proofs.Verdicts.{front_done, front_over, ready_done}
 use Rattle.correspond.proofs.Refining.{refine_no_start, start_long, begun, refine_no_front, fronted, settled_long, over_few, refine_over, refine-after}

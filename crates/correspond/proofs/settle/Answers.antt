@@ -1,10 +1,7 @@
-use mathlib.Core.Path.{◌≡◌, refl, ◌∙◌}
-use Prim.Native.Nat.{◌-◌}
+use mathlib.Core.Path.{refl, ◌∙◌}
 use native.Mathlib.Omega.{arith}
-use borrow.Author.Rules.{rules}
-use lib.ListN.{length}
 use Rattle.correspond.proofs.Pairing.{few_signals}
-use Rattle.correspond.proofs.Settling.{Settling, settling_none, settling_next, settling_stays, settling_over, settling_past}
+use Rattle.correspond.proofs.Settling.{settling_none, settling_next, settling_stays, settling_over, settling_past}
 use Rattle.correspond.proofs.settle.Goals as goal
 
 pub loop-r-init : goal.loop-r-init

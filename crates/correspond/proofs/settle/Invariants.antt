@@ -1,11 +1,8 @@
 -- The rounds so far, and the lengths of the lent arrays. Assumes nothing.
-use mathlib.Core.Path.{◌≡◌, refl, ◌∙◌}
+use mathlib.Core.Path.{◌≡◌}
 use Prim.Native.Nat.{◌-◌}
-use native.Mathlib.Omega.{arith}
-use borrow.Author.Rules.{rules}
 use lib.ListN.{length}
-use Rattle.correspond.proofs.Pairing.{few_signals}
-use Rattle.correspond.proofs.Settling.{Settling, settling_none, settling_next, settling_stays, settling_over, settling_past}
+use Rattle.correspond.proofs.Settling.{Settling}
 use Rattle.correspond.proofs.settle.Given as goal
 
 abbrev pub invariant-loop-r : goal.invariant-loop-r

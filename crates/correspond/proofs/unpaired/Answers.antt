@@ -1,10 +1,7 @@
-use mathlib.Core.Path.{◌≡◌, ap}
-use mathlib.Core.Bool.{false, not}
-use Prim.Native.Nat.{ℕ, ◌-◌, ◌≤◌, ◌<◌}
+use mathlib.Core.Path.{ap}
+use mathlib.Core.Bool.{not}
 use native.Mathlib.Omega.{arith}
-use borrow.Author.Rules.{rules}
 use borrow.Author.Count.{below_more}
-use Rattle.correspond.specs.Verdicts.{apart_by}
 use Rattle.correspond.proofs.Pairing.{in_a, in_b, apart_yes, apart_no, unpaired_found, unpaired_none}
 use Rattle.correspond.proofs.unpaired.Goals as goal
 

@@ -1,5 +1,4 @@
 -- `combine` has an early answer, or goes on with the table's room. Assumes nothing.
-use borrow.Author.Rules.{rules}
 use Rattle.diagram.specs.Contract.{Early, Says}
 use Rattle.diagram.proofs.Combining.{early_has}
 use Rattle.diagram.proofs.combine.Goals as goal

@@ -1,5 +1,4 @@
 -- `complement` is equality with the constant 0. Assumes nothing.
-use borrow.Author.Rules.{rules}
 use Rattle.diagram.proofs.Combining.{complement_asks, complement_is}
 use Rattle.diagram.proofs.complement.Goals as goal
 

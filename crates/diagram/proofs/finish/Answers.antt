@@ -1,5 +1,4 @@
 -- `finish` makes the node over two results, and the cache stays true. Assumes nothing.
-use borrow.Author.Rules.{rules}
 use Rattle.diagram.specs.Contract.{Says}
 use Rattle.diagram.proofs.Noting.{note_asks, has_noted}
 use Rattle.diagram.proofs.finish.Goals as goal

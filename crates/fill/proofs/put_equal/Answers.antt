@@ -1,5 +1,4 @@
 -- The equality, then its product with those before. Assumes nothing.
-use borrow.Author.Rules.{rules}
 use Rattle.fill.proofs.Equals.{equal_asks, equal_full, product_asks, equal_ends}
 use Rattle.fill.proofs.put_equal.Goals as goal
 

@@ -1,9 +1,6 @@
 use mathlib.Core.Path.{◌∙◌}
-use Prim.Native.Nat.{◌-◌}
 use native.Mathlib.Omega.{arith}
-use borrow.Author.Rules.{rules}
-use lib.ListN.{length}
-use Rattle.fill.proofs.Equalled.{Equalled, equalled_none, equalled_asks, equalled_next, equalled_full, equalled_end}
+use Rattle.fill.proofs.Equalled.{equalled_none, equalled_asks, equalled_next, equalled_full, equalled_end}
 use Rattle.fill.proofs.put_equals.Goals as goal
 
 pub loop-v-init : goal.loop-v-init

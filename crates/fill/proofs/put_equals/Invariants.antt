@@ -1,10 +1,7 @@
 -- After v signals q is the id of the product of their equalities. Assumes nothing.
-use mathlib.Core.Path.{◌∙◌}
 use Prim.Native.Nat.{◌-◌}
-use native.Mathlib.Omega.{arith}
-use borrow.Author.Rules.{rules}
 use lib.ListN.{length}
-use Rattle.fill.proofs.Equalled.{Equalled, equalled_none, equalled_asks, equalled_next, equalled_full, equalled_end}
+use Rattle.fill.proofs.Equalled.{Equalled}
 use Rattle.fill.proofs.put_equals.Given as goal
 
 abbrev pub invariant-loop-v : goal.invariant-loop-v

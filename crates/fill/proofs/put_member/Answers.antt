@@ -1,5 +1,4 @@
 -- A signal that is first in its class changes nothing; any other adds its equality and product. Assumes nothing.
-use borrow.Author.Rules.{rules}
 use Rattle.fill.proofs.Equals.{member_asks, member_later, member_first}
 use Rattle.fill.proofs.put_member.Goals as goal
 

@@ -1,5 +1,4 @@
 -- A plain signal's id is there already; a flipped one is complemented. Assumes nothing.
-use borrow.Author.Rules.{rules}
 use Rattle.fill.proofs.Each.{plain_says, flipped_says}
 use Rattle.fill.proofs.put_normal.Goals as goal
 

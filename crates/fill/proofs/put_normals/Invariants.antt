@@ -1,12 +1,8 @@
 -- After v signals the ids of their h stand in the array. Assumes nothing.
-use mathlib.Core.Path.{◌∙◌}
 use Prim.Native.Nat.{◌-◌}
-use native.Mathlib.Omega.{arith}
-use borrow.Author.Rules.{rules}
 use lib.ListN.{length}
 use Rattle.fill.specs.Trees.{normals}
-use Rattle.fill.proofs.Mapped.{Mapped, mapped_none, mapped_small, mapped_next, mapped_full, mapped_end}
-use Rattle.fill.proofs.Each.{normal_asks, normal_says}
+use Rattle.fill.proofs.Mapped.{Mapped}
 use Rattle.fill.proofs.put_normals.Given as goal
 
 abbrev pub invariant-loop-v : goal.invariant-loop-v

@@ -1,6 +1,5 @@
 -- A tree made is a list of one worked. Assumes nothing.
 use mathlib.Core.Path.{ap, sym}
-use borrow.Author.Rules.{rules}
 use Rattle.fill.specs.Work.{worked_of_made}
 use Rattle.fill.proofs.worked_of.Goals as goal
 

@@ -1,11 +1,7 @@
 -- The numbers passed are copied. Assumes nothing.
-use mathlib.Core.Path.{◌≡◌, ◌∙◌}
+use mathlib.Core.Path.{◌≡◌}
 use Prim.Native.Nat.{ℕ, ◌-◌, ◌≤◌, ◌<◌}
-use native.Mathlib.Omega.{arith}
-use borrow.Author.Rules.{rules}
-use borrow.Author.Count.{below_more}
-use lib.ListN.{length, get_or, length-set}
-use lib.Seq.{get_or-set_same, get_or-set_other, ext_get_or}
+use lib.ListN.{length, get_or}
 use Rattle.groups.proofs.copy.Given as goal
 
 abbrev pub invariant-loop-v : goal.invariant-loop-v

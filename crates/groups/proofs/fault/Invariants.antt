@@ -2,12 +2,8 @@
 use mathlib.Core.Path.{◌≡◌}
 use mathlib.Core.Bool.{false}
 use Prim.Native.Nat.{ℕ, ◌-◌, ◌≤◌, ◌<◌}
-use native.Mathlib.Omega.{arith}
-use borrow.Author.Rules.{rules}
-use borrow.Author.Count.{below_more}
 use lib.ListN.{length}
 use Rattle.groups.specs.ByIds.{differs}
-use Rattle.groups.proofs.Differs.{differs_yes, differs_no, fault_found, fault_none}
 use Rattle.groups.proofs.fault.Given as goal
 
 abbrev pub invariant-loop-v : goal.invariant-loop-v

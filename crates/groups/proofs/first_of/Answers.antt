@@ -1,11 +1,8 @@
-use mathlib.Core.Path.{◌≡◌, refl}
-use mathlib.Core.Bool.{false}
-use Prim.Native.Nat.{ℕ, ◌-◌, ◌≤◌, ◌<◌}
+use mathlib.Core.Path.{refl}
+use Prim.Native.Nat.{ℕ}
 use native.Mathlib.Omega.{arith}
-use borrow.Author.Rules.{rules}
 use borrow.Author.Count.{below_more}
 use borrow.Author.Tests.{eq-eqb, ne_eqb}
-use lib.Dec.{eqb}
 use Rattle.meaning.specs.Joint.{class, first}
 use Rattle.groups.proofs.Least.{least_found}
 use Rattle.groups.proofs.first_of.Goals as goal

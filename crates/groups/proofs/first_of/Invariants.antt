@@ -1,14 +1,9 @@
 -- The first u that has v's class number, below v or v itself. Assumes nothing.
-use mathlib.Core.Path.{◌≡◌, refl}
+use mathlib.Core.Path.{◌≡◌}
 use mathlib.Core.Bool.{false}
 use Prim.Native.Nat.{ℕ, ◌-◌, ◌≤◌, ◌<◌}
-use native.Mathlib.Omega.{arith}
-use borrow.Author.Rules.{rules}
-use borrow.Author.Count.{below_more}
-use borrow.Author.Tests.{eq-eqb, ne_eqb}
 use lib.Dec.{eqb}
-use Rattle.meaning.specs.Joint.{class, first}
-use Rattle.groups.proofs.Least.{least_found}
+use Rattle.meaning.specs.Joint.{class}
 use Rattle.groups.proofs.first_of.Given as goal
 
 abbrev pub invariant-loop-first : goal.invariant-loop-first

@@ -1,10 +1,7 @@
-use mathlib.Core.Path.{◌≡◌, sym, ◌∙◌}
-use mathlib.Core.Bool.{false}
-use Prim.Native.Nat.{ℕ, ◌-◌, ◌≤◌, ◌<◌}
+use mathlib.Core.Path.{sym, ◌∙◌}
 use native.Mathlib.Omega.{arith}
-use borrow.Author.Rules.{rules}
 use borrow.Author.Count.{below_more}
-use Rattle.groups.specs.ByIds.{same_by, first_by}
+use Rattle.groups.specs.ByIds.{first_by}
 use Rattle.groups.proofs.Least.{least_found}
 use Rattle.groups.proofs.Same.{same_equivalence}
 use Rattle.groups.proofs.first_with.Goals as goal

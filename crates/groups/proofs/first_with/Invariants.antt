@@ -1,13 +1,8 @@
 -- The first u that goes with v, below v or v itself. Assumes nothing.
-use mathlib.Core.Path.{◌≡◌, sym, ◌∙◌}
+use mathlib.Core.Path.{◌≡◌}
 use mathlib.Core.Bool.{false}
 use Prim.Native.Nat.{ℕ, ◌-◌, ◌≤◌, ◌<◌}
-use native.Mathlib.Omega.{arith}
-use borrow.Author.Rules.{rules}
-use borrow.Author.Count.{below_more}
-use Rattle.groups.specs.ByIds.{same_by, first_by}
-use Rattle.groups.proofs.Least.{least_found}
-use Rattle.groups.proofs.Same.{same_equivalence}
+use Rattle.groups.specs.ByIds.{same_by}
 use Rattle.groups.proofs.first_with.Given as goal
 
 abbrev pub invariant-loop-u : goal.invariant-loop-u

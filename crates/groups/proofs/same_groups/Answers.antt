@@ -1,9 +1,5 @@
-use mathlib.Core.Path.{◌≡◌}
-use Prim.Native.Nat.{ℕ, ◌-◌, ◌≤◌, ◌<◌}
 use native.Mathlib.Omega.{arith}
-use borrow.Author.Rules.{rules}
 use borrow.Author.Count.{below_more}
-use lib.ListN.{length, get_or}
 use Rattle.groups.proofs.Same.{same_list_lem, other_list}
 use Rattle.groups.proofs.same_groups.Goals as goal
 

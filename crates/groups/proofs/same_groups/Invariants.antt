@@ -1,11 +1,7 @@
 -- The groupings agree on the signals passed. Assumes nothing.
 use mathlib.Core.Path.{◌≡◌}
 use Prim.Native.Nat.{ℕ, ◌-◌, ◌≤◌, ◌<◌}
-use native.Mathlib.Omega.{arith}
-use borrow.Author.Rules.{rules}
-use borrow.Author.Count.{below_more}
 use lib.ListN.{length, get_or}
-use Rattle.groups.proofs.Same.{same_list_lem, other_list}
 use Rattle.groups.proofs.same_groups.Given as goal
 
 abbrev pub invariant-loop-v : goal.invariant-loop-v

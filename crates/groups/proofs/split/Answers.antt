@@ -1,9 +1,7 @@
-use Prim.Native.Nat.{◌-◌}
 use native.Mathlib.Omega.{arith}
-use lib.ListN.{length}
-use Rattle.groups.specs.ByIds.{same_by, first_by, split_by}
+use Rattle.groups.specs.ByIds.{first_by, split_by}
 use Rattle.groups.proofs.Same.{same_equivalence}
-use Rattle.groups.proofs.Numbering.{Numbered, numbered_none, numbered_upto, numbered_next, numbered_all}
+use Rattle.groups.proofs.Numbering.{numbered_none, numbered_upto, numbered_next, numbered_all}
 use Rattle.groups.proofs.split.Goals as goal
 
 pub loop-v-init : goal.loop-v-init

@@ -1,10 +1,8 @@
 -- The signals passed are numbered. Assumes nothing.
 use Prim.Native.Nat.{◌-◌}
-use native.Mathlib.Omega.{arith}
 use lib.ListN.{length}
-use Rattle.groups.specs.ByIds.{same_by, first_by, split_by}
-use Rattle.groups.proofs.Same.{same_equivalence}
-use Rattle.groups.proofs.Numbering.{Numbered, numbered_none, numbered_upto, numbered_next, numbered_all}
+use Rattle.groups.specs.ByIds.{same_by}
+use Rattle.groups.proofs.Numbering.{Numbered}
 use Rattle.groups.proofs.split.Given as goal
 
 abbrev pub invariant-loop-v : goal.invariant-loop-v

@@ -1,8 +1,6 @@
-use Prim.Native.Nat.{◌-◌}
 use mathlib.Core.Path.{sym, ◌∙◌}
 use native.Mathlib.Omega.{arith}
-use lib.ListN.{length}
-use Rattle.tick.proofs.Vectors.{Testing, testing_start, testing_bad, testing_more, testing_end}
+use Rattle.tick.proofs.Vectors.{testing_start, testing_bad, testing_more, testing_end}
 use Rattle.tick.proofs.bad_vector.Goals as goal
 
 pub loop-t-init : goal.loop-t-init

@@ -1,9 +1,7 @@
 -- Up to tick t no vector has a bit beyond the inputs. Assumes nothing.
 use Prim.Native.Nat.{◌-◌}
-use mathlib.Core.Path.{sym, ◌∙◌}
-use native.Mathlib.Omega.{arith}
 use lib.ListN.{length}
-use Rattle.tick.proofs.Vectors.{Testing, testing_start, testing_bad, testing_more, testing_end}
+use Rattle.tick.proofs.Vectors.{Testing}
 use Rattle.tick.proofs.bad_vector.Given as goal
 
 abbrev pub invariant-loop-t : goal.invariant-loop-t

@@ -2,7 +2,6 @@
 use mathlib.Core.Path.{ap}
 use mathlib.Core.Bool.{not}
 use Rattle.tick.proofs.Vectors.{shifted_none}
-use borrow.Author.Rules.{rules}
 use Rattle.tick.proofs.beyond.Goals as goal
 
 pub returns : goal.returns

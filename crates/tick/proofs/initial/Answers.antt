@@ -1,11 +1,9 @@
-use Prim.Native.Nat.{◌-◌}
 use mathlib.Core.Path.{◌∙◌, ap}
 use native.Mathlib.Omega.{arith}
-use borrow.Author.Rules.{rules}
 use Rattle.sheet.specs.Stored.{nth_signal}
 use Rattle.sheet.proofs.Right.{signal_register}
 use Rattle.tick.specs.Tick.{state_of}
-use Rattle.tick.proofs.Holding.{Holding, initial_of, initial_held, holding_start, holding_room, holding_more, holding_end}
+use Rattle.tick.proofs.Holding.{initial_of, initial_held, holding_start, holding_room, holding_more, holding_end}
 use Rattle.tick.proofs.initial.Goals as goal
 
 pub loop-i-init : goal.loop-i-init

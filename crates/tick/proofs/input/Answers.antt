@@ -4,7 +4,6 @@ use mathlib.Core.Path.{sym}
 use lib.Bits.{and_mask}
 use Rattle.meaning.specs.Numbers.{max_inputs}
 use Rattle.tick.proofs.Bits.{bit_shifted, bit_beyond}
-use borrow.Author.Rules.{rules}
 use Rattle.tick.proofs.input.Goals as goal
 
 pub returns-then-i-ge-INPUTS : goal.returns-then-i-ge-INPUTS

@@ -1,6 +1,5 @@
 -- A tick is made of the values that `values` computes. Assumes nothing.
 use Rattle.tick.proofs.Running.{tick_made}
-use borrow.Author.Rules.{rules}
 use Rattle.tick.proofs.one_tick.Goals as goal
 
 pub returns : goal.returns

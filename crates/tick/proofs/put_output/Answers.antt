@@ -1,6 +1,5 @@
 -- A shift puts a bit above a number. Assumes nothing.
 use Rattle.tick.proofs.Showing.{put_bit}
-use borrow.Author.Rules.{rules}
 use Rattle.tick.proofs.put_output.Goals as goal
 
 pub returns : goal.returns

@@ -1,6 +1,5 @@
 -- Each case of a reading has its answer. Assumes nothing.
 use Rattle.tick.specs.Tick.{refused_of}
-use borrow.Author.Rules.{rules}
 use Rattle.tick.proofs.refused.Goals as goal
 
 pub returns-in-Good : goal.returns-in-Good

@@ -4,7 +4,6 @@ use Rattle.meaning.specs.Sheet.{value, reading_of_sheet}
 use Rattle.sheet.specs.Stored.{sheet_of, Whole}
 use Rattle.tick.specs.Tick.{refused_of}
 use Rattle.tick.proofs.Outcome.{found_good, found_refused, ran-refused, ran_out, ran_vector, ran-wrote}
-use borrow.Author.Rules.{rules}
 use Rattle.tick.proofs.run.Goals as goal
 
 pub returns-in_default : goal.returns-in_default

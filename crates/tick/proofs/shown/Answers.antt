@@ -1,8 +1,6 @@
-use Prim.Native.Nat.{◌-◌}
 use mathlib.Core.Path.{◌∙◌}
 use native.Mathlib.Omega.{arith}
-use borrow.Author.Rules.{rules}
-use Rattle.tick.proofs.Showing.{Showing, showing_start, showing_less, showing_more, showing_end}
+use Rattle.tick.proofs.Showing.{showing_start, showing_less, showing_more, showing_end}
 use Rattle.tick.proofs.shown.Goals as goal
 
 pub loop-i-init : goal.loop-i-init

@@ -1,9 +1,6 @@
 -- After i turns the number has the bits of the first i outputs. Assumes nothing.
 use Prim.Native.Nat.{◌-◌}
-use mathlib.Core.Path.{◌∙◌}
-use native.Mathlib.Omega.{arith}
-use borrow.Author.Rules.{rules}
-use Rattle.tick.proofs.Showing.{Showing, showing_start, showing_less, showing_more, showing_end}
+use Rattle.tick.proofs.Showing.{Showing}
 use Rattle.tick.proofs.shown.Given as goal
 
 abbrev pub invariant-loop-i : goal.invariant-loop-i

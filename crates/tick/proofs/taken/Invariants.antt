@@ -1,12 +1,6 @@
 -- After i turns the registers among the first i signals have taken their sources' values. Assumes nothing.
 use Prim.Native.Nat.{◌-◌}
-use mathlib.Core.Path.{◌∙◌, ap}
-use native.Mathlib.Omega.{arith}
-use borrow.Author.Rules.{rules}
-use Rattle.sheet.specs.Stored.{nth_signal}
-use Rattle.sheet.proofs.Right.{signal_register}
-use Rattle.tick.specs.Tick.{state_of}
-use Rattle.tick.proofs.Holding.{Holding, taken_of, taken_held, holding_start, holding_room, holding_more, holding_end}
+use Rattle.tick.proofs.Holding.{Holding, taken_of}
 use Rattle.tick.proofs.taken.Given as goal
 
 abbrev pub invariant-loop-i : goal.invariant-loop-i

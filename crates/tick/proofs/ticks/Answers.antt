@@ -1,9 +1,6 @@
-use Prim.Native.Nat.{◌-◌}
 use native.Mathlib.Omega.{arith}
-use lib.ListN.{length}
-use Rattle.sheet.specs.Stored.{sheet_of}
 use Rattle.tick.proofs.Vectors.{vectors_keep}
-use Rattle.tick.proofs.Running.{Running, running-start, running_more, running_end}
+use Rattle.tick.proofs.Running.{running-start, running_more, running_end}
 use Rattle.tick.proofs.ticks.Goals as goal
 
 pub initial-state-requires : goal.initial-state-requires

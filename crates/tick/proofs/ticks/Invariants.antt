@@ -1,10 +1,8 @@
 -- After t turns the numbers of the first t ticks are stored, and the registers hold what they held after them. Assumes nothing.
 use Prim.Native.Nat.{◌-◌}
-use native.Mathlib.Omega.{arith}
 use lib.ListN.{length}
 use Rattle.sheet.specs.Stored.{sheet_of}
-use Rattle.tick.proofs.Vectors.{vectors_keep}
-use Rattle.tick.proofs.Running.{Running, running-start, running_more, running_end}
+use Rattle.tick.proofs.Running.{Running}
 use Rattle.tick.proofs.ticks.Given as goal
 
 abbrev pub invariant-loop-t : goal.invariant-loop-t

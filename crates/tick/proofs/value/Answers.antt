@@ -5,7 +5,6 @@ use Rattle.meaning.specs.Tick.{gate_value}
 use Rattle.sheet.specs.Stored.{signal_of}
 use Rattle.sheet.proofs.Right.{signal_input, signal_register, signal_inverter, signal_and, signal_or}
 use Rattle.tick.specs.Tick.{value_of}
-use borrow.Author.Rules.{rules}
 use Rattle.tick.proofs.value.Goals as goal
 
 pub returns-then-kind-eq-INPUT : goal.returns-then-kind-eq-INPUT

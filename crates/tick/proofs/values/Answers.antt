@@ -1,13 +1,7 @@
-use Prim.Native.Nat.{◌-◌}
 use mathlib.Core.Path.{sym, ◌∙◌}
 use native.Mathlib.Omega.{arith}
-use lib.Dec.{eqb}
-use borrow.Author.Rules.{rules}
-use Rattle.meaning.specs.Numbers.{INPUT, REGISTER, max_inputs}
-use Rattle.meaning.specs.Basic.{bits_of}
-use Rattle.sheet.specs.Stored.{nth_signal}
 use Rattle.tick.specs.Tick.{padded}
-use Rattle.tick.proofs.Valuing.{Valuing, byte_most, valuing_start, valuing_more, valuing_places, valuing_end}
+use Rattle.tick.proofs.Valuing.{valuing_start, valuing_more, valuing_places, valuing_end}
 use Rattle.tick.proofs.values.Goals as goal
 
 pub loop-i-init : goal.loop-i-init

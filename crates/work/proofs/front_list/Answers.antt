@@ -1,6 +1,5 @@
 -- The front of the step list, worked from an emptied table. Assumes nothing.
 use mathlib.Core.Path.{sym}
-use borrow.Author.Rules.{rules}
 use Rattle.work.proofs.Front.{zeros_front}
 use Rattle.work.proofs.FrontList.{front_few, now_asks, now_over, array_few, array_sized, next_asks, front_says}
 use Rattle.work.proofs.front_list.Goals as goal

@@ -1,6 +1,5 @@
 -- f of a moment, and the same normalised. Assumes nothing.
 use mathlib.Core.Path.{refl}
-use borrow.Author.Rules.{rules}
 use Rattle.work.proofs.Both.{both_over, plain_few, plain_sized, normals_asks, both_says}
 use Rattle.work.proofs.put_both.Goals as goal
 

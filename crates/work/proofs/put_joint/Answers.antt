@@ -1,6 +1,5 @@
 -- f of the joint list: the pass over A, then the pass over B. Assumes nothing.
 use native.Mathlib.Omega.{arith}
-use borrow.Author.Rules.{rules}
 use Rattle.work.proofs.Joining.{first_asks, joint_over, second_asks, joint_fills}
 use Rattle.work.proofs.put_joint.Goals as goal
 

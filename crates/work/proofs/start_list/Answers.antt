@@ -1,7 +1,6 @@
 -- The start list, worked from an emptied table. Assumes nothing.
 use mathlib.Core.Path.{sym}
 use native.Mathlib.Omega.{arith}
-use borrow.Author.Rules.{rules}
 use Rattle.work.proofs.Front.{zeros_front}
 use Rattle.work.proofs.Joining.{joint_few}
 use Rattle.work.proofs.StartList.{start_asks, start_says}

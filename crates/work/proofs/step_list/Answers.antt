@@ -1,5 +1,4 @@
 -- The step list of a grouping, worked on from its front. Assumes nothing.
-use borrow.Author.Rules.{rules}
 use Rattle.work.proofs.Round.{equals_asks, round_over, times_asks, round_says}
 use Rattle.work.proofs.StepList.{step_says}
 use Rattle.work.proofs.step_list.Goals as goal

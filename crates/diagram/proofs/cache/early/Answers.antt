@@ -1,5 +1,4 @@
 -- `cache::early`: AND and OR absorb, XOR and EQUAL cancel. Assumes nothing.
-use borrow.Author.Rules.{rules}
 use Rattle.diagram.specs.Contract.{Absorbed, Cancelled}
 use Rattle.diagram.proofs.Early.{and_absorbs, or_absorbs, xor_cancels, equal_cancels}
 use Rattle.diagram.proofs.cache.early.Goals as goal

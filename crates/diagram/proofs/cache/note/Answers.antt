@@ -1,5 +1,4 @@
 -- `cache::note` writes the four words of a slot. Assumes nothing.
-use borrow.Author.Rules.{rules}
 use Rattle.diagram.specs.Table.{noted}
 use Rattle.diagram.proofs.cache.note.Goals as goal
 

@@ -1,5 +1,4 @@
 -- `cache::recall` answers what a slot holds only for its own operation and operands. Assumes nothing.
-use borrow.Author.Rules.{rules}
 use Rattle.diagram.specs.Contract.{Recalled}
 use Rattle.diagram.proofs.Noting.{recalled}
 use Rattle.diagram.proofs.cache.recall.Goals as goal

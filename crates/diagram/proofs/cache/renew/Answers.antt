@@ -1,6 +1,5 @@
 -- `cache::renew`: the next stamp, or the first one in an emptied cache. Assumes nothing.
 use native.Mathlib.Omega.{arith}
-use borrow.Author.Rules.{rules}
 use Rattle.diagram.proofs.Forgetting.{renewed_next, renewed_first}
 use Rattle.diagram.proofs.cache.renew.Goals as goal
 

@@ -1,10 +1,7 @@
-use Prim.Native.Nat.{◌≤◌, ◌-◌}
 use mathlib.Core.Path.{◌≡◌, refl, ◌∙◌}
 use native.Mathlib.Omega.{arith}
-use lib.ListN.{length}
 use borrow.Author.Rules.{rules}
 use Rattle.diagram.specs.Words.{room_of}
-use Rattle.diagram.specs.Contract.{Wiped}
 use Rattle.diagram.proofs.Forgetting.{wiped_none, wiped_more}
 use Rattle.diagram.proofs.cache.wipe.Goals as goal
 

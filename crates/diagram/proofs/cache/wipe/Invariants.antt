@@ -1,12 +1,9 @@
 -- `cache::wipe` empties the slots. The invariant: the first i slots are empty, and all else is as it was. Assumes nothing.
 use Prim.Native.Nat.{◌≤◌, ◌-◌}
-use mathlib.Core.Path.{◌≡◌, refl, ◌∙◌}
-use native.Mathlib.Omega.{arith}
+use mathlib.Core.Path.{◌≡◌}
 use lib.ListN.{length}
-use borrow.Author.Rules.{rules}
 use Rattle.diagram.specs.Words.{room_of}
 use Rattle.diagram.specs.Contract.{Wiped}
-use Rattle.diagram.proofs.Forgetting.{wiped_none, wiped_more}
 use Rattle.diagram.proofs.cache.wipe.Given as goal
 
 abbrev pub invariant-loop-i : goal.invariant-loop-i

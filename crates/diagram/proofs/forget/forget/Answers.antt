@@ -1,6 +1,5 @@
 -- `forget::forget`: nothing is to be taken back, or the cache and then the nodes are. Assumes nothing.
 use mathlib.Core.Path.{refl}
-use borrow.Author.Rules.{rules}
 use Rattle.diagram.proofs.Forgetting.{renewed_good, forgets_none, forgets_some}
 use Rattle.diagram.proofs.forget.forget.Goals as goal
 

@@ -1,9 +1,6 @@
-use Prim.Native.Nat.{◌≤◌, ◌-◌}
+use Prim.Native.Nat.{◌-◌}
 use mathlib.Core.Path.{◌≡◌, refl, ◌∙◌}
 use native.Mathlib.Omega.{arith}
-use lib.ListN.{length}
-use borrow.Author.Rules.{rules}
-use Rattle.diagram.specs.Contract.{Remain}
 use Rattle.diagram.proofs.Forgetting.{remain_all, remain_fewer}
 use Rattle.diagram.proofs.forget.unlink_down.Goals as goal
 

@@ -1,11 +1,8 @@
 -- `forget::unlink_down` takes the nodes out of their chains. The invariant: the first i nodes remain. Assumes nothing.
-use Prim.Native.Nat.{◌≤◌, ◌-◌}
-use mathlib.Core.Path.{◌≡◌, refl, ◌∙◌}
-use native.Mathlib.Omega.{arith}
+use Prim.Native.Nat.{◌≤◌}
+use mathlib.Core.Path.{◌≡◌}
 use lib.ListN.{length}
-use borrow.Author.Rules.{rules}
 use Rattle.diagram.specs.Contract.{Remain}
-use Rattle.diagram.proofs.Forgetting.{remain_all, remain_fewer}
 use Rattle.diagram.proofs.forget.unlink_down.Given as goal
 
 abbrev pub invariant-loop-i : goal.invariant-loop-i

@@ -1,5 +1,4 @@
 -- `nodes::add` writes the node and links it first in its chain. Assumes nothing.
-use borrow.Author.Rules.{rules}
 use Rattle.diagram.specs.Table.{added}
 use Rattle.diagram.proofs.nodes.add.Goals as goal
 

@@ -1,7 +1,7 @@
 use Prim.Native.Nat.{◌-◌}
 use native.Mathlib.Omega.{arith}
 use borrow.Author.Rules.{rules}
-use Rattle.diagram.proofs.Chain.{Walk, walk_start, walk_next, walk_found, walk_none}
+use Rattle.diagram.proofs.Chain.{walk_start, walk_next, walk_found, walk_none}
 use Rattle.diagram.proofs.nodes.find.Goals as goal
 
 pub loop-p-init : goal.loop-p-init

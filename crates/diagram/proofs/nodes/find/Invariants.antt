@@ -1,8 +1,5 @@
 -- `nodes::find` walks the chain of a bucket. The invariant: whatever node has the three words lies on the rest of the chain. Assumes nothing.
-use Prim.Native.Nat.{◌-◌}
-use native.Mathlib.Omega.{arith}
-use borrow.Author.Rules.{rules}
-use Rattle.diagram.proofs.Chain.{Walk, walk_start, walk_next, walk_found, walk_none}
+use Rattle.diagram.proofs.Chain.{Walk}
 use Rattle.diagram.proofs.nodes.find.Given as goal
 
 abbrev pub invariant-loop-p : goal.invariant-loop-p

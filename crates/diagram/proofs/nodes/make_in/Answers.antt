@@ -1,6 +1,5 @@
 -- `nodes::make_in`: equal branches, a node that is found, a full table, a node that is added. Assumes nothing.
 use native.Mathlib.Omega.{arith}
-use borrow.Author.Rules.{rules}
 use Prim.Native.Nat.{◌<◌}
 use Rattle.diagram.specs.Words.{room_of}
 use Rattle.diagram.specs.Table.{bucket_of}

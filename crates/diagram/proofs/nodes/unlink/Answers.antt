@@ -1,5 +1,4 @@
 -- `nodes::unlink` puts the next node of the chain first. Assumes nothing.
-use borrow.Author.Rules.{rules}
 use Rattle.diagram.specs.Table.{bucket_of, unlinked}
 use Rattle.diagram.proofs.nodes.unlink.Goals as goal
 

@@ -1,6 +1,5 @@
 -- `start::begin`: a result of the cache, or the branches. Assumes nothing.
 use native.Mathlib.Omega.{arith}
-use borrow.Author.Rules.{rules}
 use Rattle.diagram.specs.Contract.{Recalled, Planned}
 use Rattle.diagram.proofs.Early.{slot_asks, goes_on}
 use Rattle.diagram.proofs.start.begin.Goals as goal

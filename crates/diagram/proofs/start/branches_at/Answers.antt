@@ -1,6 +1,5 @@
 -- `start::branches_at`: a constant, a node of another height, a node of this height. Assumes nothing.
 use mathlib.Core.Path.{refl, sym, ◌∙◌}
-use borrow.Author.Rules.{rules}
 use Rattle.diagram.proofs.Branching.{branches_constant, branches_other, branches_own}
 use Rattle.diagram.proofs.start.branches_at.Goals as goal
 

@@ -1,7 +1,6 @@
 -- `start::height_of`: constants have height 0, a node the height of its words. Assumes nothing.
 use mathlib.Core.Path.{sym, ◌∙◌}
 use native.Mathlib.Omega.{arith}
-use borrow.Author.Rules.{rules}
 use Rattle.diagram.proofs.Trees.{height-constant, height_id}
 use Rattle.diagram.proofs.start.height_of.Goals as goal
 

@@ -1,10 +1,8 @@
-use Prim.Native.Nat.{◌≤◌, ◌-◌, ◌*◌}
+use Prim.Native.Nat.{◌*◌}
 use mathlib.Core.Path.{◌≡◌, refl}
-use mathlib.Core.List.{◌++◌}
 use native.Mathlib.Omega.{arith}
-use lib.ListN.{length, replicate, drop, length-set}
+use lib.ListN.{length-set}
 use borrow.Author.Fill.{fill_more}
-use borrow.Author.Rules.{rules}
 use Rattle.meaning.specs.Numbers.{node_words}
 use Rattle.meaning.specs.Room.{cleared}
 use Rattle.diagram.specs.Words.{room_of}

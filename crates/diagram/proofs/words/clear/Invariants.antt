@@ -1,13 +1,9 @@
 -- `words::clear` empties the table. The invariant: the first i words are zero and the rest as they were. Assumes nothing.
 use Prim.Native.Nat.{◌≤◌, ◌-◌, ◌*◌}
-use mathlib.Core.Path.{◌≡◌, refl}
+use mathlib.Core.Path.{◌≡◌}
 use mathlib.Core.List.{◌++◌}
-use native.Mathlib.Omega.{arith}
-use lib.ListN.{length, replicate, drop, length-set}
-use borrow.Author.Fill.{fill_more}
-use borrow.Author.Rules.{rules}
+use lib.ListN.{length, replicate, drop}
 use Rattle.meaning.specs.Numbers.{node_words}
-use Rattle.meaning.specs.Room.{cleared}
 use Rattle.diagram.specs.Words.{room_of}
 use Rattle.diagram.proofs.words.clear.Given as goal
 

@@ -1,9 +1,8 @@
 -- `words::hashed` is `spread`, and its product fits. Assumes nothing.
 use mathlib.Core.Path.{refl}
-use native.Mathlib.Omega.{arith}
 use borrow.Author.Rules.{rules}
 use Rattle.diagram.specs.Words.{mixed, spread}
-use Rattle.diagram.proofs.Stores.{spread-lt, spread_fits}
+use Rattle.diagram.proofs.Stores.{spread-lt}
 use Rattle.diagram.proofs.words.hashed.Goals as goal
 
 pub returns : goal.returns

@@ -1,5 +1,4 @@
 -- A refusal goes on with its file. Assumes nothing.
-use borrow.Author.Rules.{rules}
 use Rattle.sheet.specs.Reading.{refusal_in}
 use Rattle.sheet.proofs.Reading.refusal.Goals as goal
 

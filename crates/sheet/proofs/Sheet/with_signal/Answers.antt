@@ -1,5 +1,4 @@
 -- One more signal, and the counts of its kind. Assumes nothing.
-use borrow.Author.Rules.{rules}
 use Rattle.sheet.proofs.Sheet.with_signal.Goals as goal
 
 pub returns : goal.returns

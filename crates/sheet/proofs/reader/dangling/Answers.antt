@@ -1,7 +1,5 @@
-use Prim.Native.Nat.{◌-◌}
 use native.Mathlib.Omega.{arith}
-use borrow.Author.Rules.{rules}
-use Rattle.sheet.proofs.Dangling.{Walk, walk_start, walk_more, walk_found, walk_end}
+use Rattle.sheet.proofs.Dangling.{walk_start, walk_more, walk_found, walk_end}
 use Rattle.sheet.proofs.reader.dangling.Goals as goal
 
 pub loop-i-init : goal.loop-i-init

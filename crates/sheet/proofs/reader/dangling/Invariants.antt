@@ -1,8 +1,6 @@
 -- The first record that names no signal of the sheet, if one does. Assumes nothing.
 use Prim.Native.Nat.{◌-◌}
-use native.Mathlib.Omega.{arith}
-use borrow.Author.Rules.{rules}
-use Rattle.sheet.proofs.Dangling.{Walk, walk_start, walk_more, walk_found, walk_end}
+use Rattle.sheet.proofs.Dangling.{Walk}
 use Rattle.sheet.proofs.reader.dangling.Given as goal
 
 abbrev pub invariant-loop-i : goal.invariant-loop-i

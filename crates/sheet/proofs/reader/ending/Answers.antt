@@ -1,5 +1,4 @@
 -- END, at each return. Assumes nothing.
-use borrow.Author.Rules.{rules}
 use Rattle.sheet.proofs.Ending.{ended_after, ended_none, ended_named}
 use Rattle.sheet.proofs.reader.ending.Goals as goal
 

@@ -1,6 +1,5 @@
 -- A faulty record ends the reading at its offset. Assumes nothing.
 use Rattle.sheet.specs.Part.{fault_reading}
-use borrow.Author.Rules.{rules}
 use Rattle.sheet.proofs.reader.faulty.Goals as goal
 
 pub returns-in-Sound : goal.returns-in-Sound

@@ -3,8 +3,7 @@ use Prim.Native.Nat.{◌-◌}
 use native.Mathlib.Omega.{arith}
 use lib.ListN.{length, take, drop, length-drop}
 use lib.Seq.{take_all}
-use borrow.Author.Rules.{rules}
-use Rattle.sheet.proofs.Turns.{Turn, Ahead, turn_start, turn_short, turn_refused, turn_good, turn_ended, turn_fits, turn_inside, turn_more}
+use Rattle.sheet.proofs.Turns.{Ahead, turn_start, turn_short, turn_refused, turn_good, turn_ended, turn_fits, turn_inside, turn_more}
 use Rattle.sheet.proofs.reader.read_sheet.Goals as goal
 
 pub loop-at-init : goal.loop-at-init

@@ -1,5 +1,4 @@
 -- The empty sheet stands beside a refusal. Assumes nothing.
-use borrow.Author.Rules.{rules}
 use Rattle.sheet.proofs.reader.refused.Goals as goal
 
 pub returns : goal.returns

@@ -1,7 +1,6 @@
 -- A byte of the rest of a file, 0 past its end. Assumes nothing.
 use mathlib.Core.Path.{sym}
 use lib.ListN.{get_or-eq_default}
-use borrow.Author.Rules.{rules}
 use Rattle.sheet.proofs.record.byte.Goals as goal
 
 pub returns-else-i-rest : goal.returns-else-i-rest

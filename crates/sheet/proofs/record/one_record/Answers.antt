@@ -1,6 +1,5 @@
 -- One record is judged as the paper says, at each return. Assumes nothing.
 use mathlib.Core.Path.{sym, ◌∙◌}
-use borrow.Author.Rules.{rules}
 use Rattle.sheet.proofs.Judged.{Front, judged_kind, judged_short, judged_many, judged_value, judged_later, judged_sound}
 use Rattle.sheet.proofs.record.one_record.Goals as goal
 

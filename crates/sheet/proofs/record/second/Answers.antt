@@ -2,7 +2,6 @@
 use mathlib.Core.Path.{sym, ◌∙◌}
 use borrow.Author.Tests.{eq-eqb, ne_eqb}
 use Rattle.sheet.specs.Record.{second_of}
-use borrow.Author.Rules.{rules}
 use Rattle.sheet.proofs.record.second.Goals as goal
 
 pub returns-then-body-eq2 : goal.returns-then-body-eq2

@@ -1,7 +1,5 @@
-use Prim.Native.Nat.{◌-◌}
 use native.Mathlib.Omega.{arith}
-use borrow.Author.Rules.{rules}
-use Rattle.sheet.proofs.Sizes.{Sized, sized_none, sized_few, sized_more, sized_end}
+use Rattle.sheet.proofs.Sizes.{sized_none, sized_few, sized_more, sized_end}
 use Rattle.sheet.proofs.writer.needed.Goals as goal
 
 pub loop-i-init : goal.loop-i-init

@@ -1,8 +1,6 @@
 -- The length of what is written, counted signal by signal. Assumes nothing.
 use Prim.Native.Nat.{◌-◌}
-use native.Mathlib.Omega.{arith}
-use borrow.Author.Rules.{rules}
-use Rattle.sheet.proofs.Sizes.{Sized, sized_none, sized_few, sized_more, sized_end}
+use Rattle.sheet.proofs.Sizes.{Sized}
 use Rattle.sheet.proofs.writer.needed.Given as goal
 
 abbrev pub invariant-loop-i : goal.invariant-loop-i

@@ -1,11 +1,8 @@
 -- The outputs are put one after the other. Assumes nothing.
 use Prim.Native.Nat.{◌-◌}
-use native.Mathlib.Omega.{arith}
 use Rattle.meaning.specs.Sheet as paper
-use Rattle.sheet.specs.Stored.{sheet_of, output_of, no_output}
-use Rattle.sheet.proofs.Whole.{length_outputs}
-use Rattle.sheet.proofs.Bytes.{output_here}
-use Rattle.sheet.proofs.Puts.{Puts, puts_none, puts_more, puts_room, puts_end, put_length}
+use Rattle.sheet.specs.Stored.{sheet_of}
+use Rattle.sheet.proofs.Puts.{Puts}
 use Rattle.meaning.specs.Sheet as paper
 use Rattle.meaning.specs.Sheet as paper
 use Rattle.meaning.specs.Sheet as paper

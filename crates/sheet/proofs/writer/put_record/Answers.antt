@@ -2,7 +2,6 @@
 use mathlib.Core.Path.{sym, ◌∙◌}
 use native.Mathlib.Omega.{arith}
 use lib.ListN.{length-set}
-use borrow.Author.Rules.{rules}
 use Rattle.sheet.proofs.Puts.{record_two, record_three, put_short, put_long}
 use Rattle.sheet.proofs.writer.put_record.Goals as goal
 

@@ -1,5 +1,4 @@
 -- Signals, outputs and END are put one after the other. Assumes nothing.
-use borrow.Author.Rules.{rules}
 use Rattle.sheet.specs.Stored.{sheet_of}
 use Rattle.sheet.proofs.Called.{outputs_room, end_length, end_room, sheet_put}
 use Rattle.sheet.proofs.writer.put_sheet.Goals as goal

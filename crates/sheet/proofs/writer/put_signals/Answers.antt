@@ -1,13 +1,8 @@
-use Prim.Native.Nat.{◌-◌}
 use native.Mathlib.Omega.{arith}
-use Rattle.meaning.specs.Sheet as paper
 use Rattle.sheet.specs.Stored.{sheet_of, signal_of, no_signal}
 use Rattle.sheet.proofs.Whole.{length_signals}
 use Rattle.sheet.proofs.Bytes.{signal_here, sheet_length}
-use Rattle.sheet.proofs.Puts.{Puts, puts_none, puts_more, puts_room, puts_end, put_length}
-use Rattle.meaning.specs.Sheet as paper
-use Rattle.meaning.specs.Sheet as paper
-use Rattle.meaning.specs.Sheet as paper
+use Rattle.sheet.proofs.Puts.{puts_none, puts_more, puts_room, puts_end, put_length}
 use Rattle.sheet.proofs.writer.put_signals.Goals as goal
 
 pub loop-i-init : goal.loop-i-init

@@ -1,5 +1,4 @@
 -- The call, at each return. Assumes nothing.
-use borrow.Author.Rules.{rules}
 use Rattle.sheet.proofs.Called.{called_refused, called_out, called_wrote}
 use Rattle.sheet.proofs.Files.{reads_whole}
 use Rattle.sheet.proofs.writer.write.Goals as goal

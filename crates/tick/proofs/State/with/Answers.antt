@@ -1,5 +1,4 @@
 -- Only a REGISTER record adds a register. Assumes nothing.
-use native.Mathlib.Omega.{arith}
 use borrow.Author.Tests.{eq-eqb, ne_eqb}
 use Rattle.tick.proofs.State.with.Goals as goal
 

@@ -1,6 +1,5 @@
 -- The height of a moment's first input. Assumes nothing.
 use mathlib.Core.Path.{sym, ap}
-use borrow.Author.Rules.{rules}
 use Rattle.work.specs.declared.pass.Moment.{Moment}
 use Rattle.work.specs.Passes.{top_of_input}
 use Rattle.work.proofs.pass.input_top.Goals as goal

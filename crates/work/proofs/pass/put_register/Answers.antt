@@ -1,5 +1,4 @@
 -- A register of a pass: a constant, a variable, or its source's id. Assumes nothing.
-use borrow.Author.Rules.{rules}
 use Rattle.work.proofs.Signals.{register-start, register-now_asks, register-now, register-next_asks, register-next}
 use Rattle.work.proofs.pass.put_register.Goals as goal
 

@@ -1,12 +1,7 @@
-use Prim.Native.Nat.{◌-◌}
 use mathlib.Core.Path.{◌∙◌}
 use native.Mathlib.Omega.{arith}
-use lib.ListN.{length}
-use borrow.Author.Rules.{rules}
-use Rattle.meaning.specs.Sheet as paper
-use Rattle.lists.specs.Recipes.{Side}
-use Rattle.work.specs.Passes.{SideAsks, SheetAsks, SheetSays}
-use Rattle.work.proofs.Passing.{Passing, passing_none, passing_end, passing_asks, passing_place, passing_past, passing_small, passing_next, passing_full}
+use Rattle.work.specs.Passes.{SheetAsks, SheetSays}
+use Rattle.work.proofs.Passing.{passing_none, passing_end, passing_asks, passing_place, passing_past, passing_small, passing_next, passing_full}
 use Rattle.work.proofs.pass.put_sheet.Goals as goal
 
 pub loop-v-init : goal.loop-v-init

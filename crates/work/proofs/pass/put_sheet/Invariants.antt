@@ -1,13 +1,10 @@
 -- A pass over a sheet, signal by signal, whichever two sheets it is a side of. Assumes nothing.
 use Prim.Native.Nat.{◌-◌}
-use mathlib.Core.Path.{◌∙◌}
-use native.Mathlib.Omega.{arith}
 use lib.ListN.{length}
-use borrow.Author.Rules.{rules}
 use Rattle.meaning.specs.Sheet as paper
 use Rattle.lists.specs.Recipes.{Side}
-use Rattle.work.specs.Passes.{SideAsks, SheetAsks, SheetSays}
-use Rattle.work.proofs.Passing.{Passing, passing_none, passing_end, passing_asks, passing_place, passing_past, passing_small, passing_next, passing_full}
+use Rattle.work.specs.Passes.{SideAsks}
+use Rattle.work.proofs.Passing.{Passing}
 use Rattle.work.proofs.pass.put_sheet.Given as goal
 
 abbrev pub invariant-loop-v : goal.invariant-loop-v

@@ -1,7 +1,6 @@
 -- A signal of a pass, by its kind. Assumes nothing.
 use Prim.Native.Nat.{◌≤◌}
 use native.Mathlib.Omega.{arith}
-use borrow.Author.Rules.{rules}
 use Rattle.meaning.specs.Numbers.{NOT, AND}
 use Rattle.work.proofs.Signals.{input_asks, input_says, register_says, inverter_asks, inverter_says, gate_asks, gate_says}
 use Rattle.work.proofs.pass.put_signal.Goals as goal

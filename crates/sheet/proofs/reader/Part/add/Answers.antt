@@ -1,6 +1,5 @@
 -- One more record, by each of the three ways in which it is added. Assumes nothing.
 use Rattle.sheet.proofs.Added.{output_names, register_names, added_output, added-gate, added-register}
-use borrow.Author.Rules.{rules}
 use Rattle.sheet.proofs.reader.Part.add.Goals as goal
 
 pub with_output-t-requires : goal.with_output-t-requires

@@ -1,7 +1,6 @@
 -- Nothing has been read. Assumes nothing.
 use mathlib.Core.Path.{ap}
 use Rattle.sheet.specs.Part.{empty_part, part_with_sheet}
-use borrow.Author.Rules.{rules}
 use Rattle.sheet.proofs.reader.Part.empty.Goals as goal
 
 pub returns : goal.returns

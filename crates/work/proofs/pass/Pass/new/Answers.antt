@@ -1,5 +1,4 @@
 -- Where a pass begins. Assumes nothing.
-use borrow.Author.Rules.{rules}
 use Rattle.work.specs.Passes.{pass_of}
 use Rattle.work.proofs.pass.Pass.new.Goals as goal
 

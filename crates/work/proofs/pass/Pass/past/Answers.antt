@@ -1,5 +1,4 @@
 -- After a signal the next variable of its kind is one level lower. Assumes nothing.
-use native.Mathlib.Omega.{arith}
 use borrow.Author.Tests.{eq-eqb, ne_eqb}
 use Rattle.meaning.specs.Numbers.{INPUT, REGISTER}
 use Rattle.work.specs.Passes.{passed}
