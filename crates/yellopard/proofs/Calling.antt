@@ -19,7 +19,6 @@ use Rattle.answer.specs.declared.Refusal.TheVariants.{Out}
 use Rattle.answer.specs.declared.File.TheVariants.{Nothing}
 use Rattle.answer.specs.declared.Answer.{Answer}
 use Rattle.answer.specs.declared.Answer.TheVariants.{Equivalent, Undecided, Wrote, Refused}
-use Rattle.sheet.specs.declared.Sheet.{Sheet}
 use Rattle.diagram.proofs.Empty.{cleared_same}
 use Rattle.work.specs.Lists.{left, right, joint}
 use Rattle.work.proofs.Joining.{joint_few}

@@ -1,5 +1,4 @@
 -- The call check, at each return. Assumes nothing.
-use borrow.Author.Rules.{rules}
 use mathlib.Core.Path.{sym, subst}
 use Rattle.yellopard.specs.Calls.{Checked}
 use Rattle.yellopard.proofs.Calling.{files_prepared, checked_ended, checked}

@@ -1,5 +1,4 @@
 -- Check, on the first n places of its arrays. Assumes nothing.
-use borrow.Author.Rules.{rules}
 use mathlib.Core.Path.{sym, ◌∙◌}
 use Rattle.yellopard.proofs.Calling.{prepared_classes, prepared_few, places_enough, places_cut}
 use Rattle.yellopard.proofs.check_files.Goals as goal

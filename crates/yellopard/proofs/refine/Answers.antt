@@ -1,5 +1,4 @@
 -- The call refine, at each return. Assumes nothing.
-use borrow.Author.Rules.{rules}
 use mathlib.Core.Path.{sym, subst}
 use native.Mathlib.Omega.{arith}
 use Rattle.yellopard.specs.Calls.{Refined}

@@ -1,5 +1,4 @@
 -- Refine, on the first n places of its arrays, and what it writes. Assumes nothing.
-use borrow.Author.Rules.{rules}
 use mathlib.Core.Path.{sym, ◌∙◌}
 use Rattle.yellopard.proofs.Calling.{prepared_classes, prepared_few, places_enough, places_cut, grouping_cut, grouping_fits, writing_asks, refined_written, refined_silent}
 use Rattle.yellopard.proofs.refine_files.Goals as goal

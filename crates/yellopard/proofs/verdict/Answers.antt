@@ -1,5 +1,4 @@
 -- Each case is a verdict or none. Assumes nothing.
-use borrow.Author.Rules.{rules}
 use Rattle.yellopard.specs.Calls.{is_verdict}
 use Rattle.yellopard.proofs.verdict.Goals as goal
 

@@ -1,6 +1,5 @@
 -- The values of both sheets are put one after the other. Assumes nothing.
 use mathlib.Core.Path.{refl}
-use borrow.Author.Rules.{rules}
 use Rattle.yellopard.proofs.Polarity.{still, pair_alike}
 use Rattle.yellopard.proofs.files.pair_of.Goals as goal
 

@@ -1,8 +1,5 @@
 use mathlib.Core.Path.{◌≡◌}
-use Prim.Native.Nat.{◌-◌, ◌≤◌}
 use native.Mathlib.Omega.{arith}
-use borrow.Author.Rules.{rules}
-use Rattle.yellopard.specs.Calls.{PlainPut}
 use Rattle.yellopard.proofs.Plain.{plain_none, plain_more}
 use Rattle.yellopard.proofs.files.put_plain.Goals as goal
 

@@ -1,10 +1,6 @@
 -- The values so far are put. Assumes nothing.
-use mathlib.Core.Path.{◌≡◌}
 use Prim.Native.Nat.{◌-◌, ◌≤◌}
-use native.Mathlib.Omega.{arith}
-use borrow.Author.Rules.{rules}
 use Rattle.yellopard.specs.Calls.{PlainPut}
-use Rattle.yellopard.proofs.Plain.{plain_none, plain_more}
 use Rattle.yellopard.proofs.files.put_plain.Given as goal
 
 abbrev pub invariant-loop-i : goal.invariant-loop-i

@@ -1,7 +1,6 @@
 -- A, B, UNLIKE, grouping: each file is read, and the first refusal ends the call. Assumes nothing.
 use mathlib.Core.Path.{sym, ap, ◌∙◌}
 use native.Mathlib.Omega.{arith}
-use borrow.Author.Rules.{rules}
 use Rattle.work.proofs.Front.{zeros_front}
 use Rattle.yellopard.specs.declared.files.Stage.TheVariants.{Ended}
 use Rattle.yellopard.proofs.Stages.{files_ended, ends_at_A, ends_at_B, TwoSheets, two_sheets, joint_few, pair_asks, ends_with_inputs, ends_with_outputs, ends_at-grouping, stage_ready}

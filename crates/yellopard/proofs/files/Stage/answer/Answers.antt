@@ -1,5 +1,4 @@
 -- The answer that a stage ends the call with. Assumes nothing.
-use borrow.Author.Rules.{rules}
 use Rattle.yellopard.specs.Calls.{ended_by}
 use Rattle.yellopard.proofs.files.Stage.answer.Goals as goal
 
