@@ -3,8 +3,8 @@
 
 usage: tools/respell.py [--list]     at the top of the repository
 
-It was run once, after the repository was turned to a newer Rattle; a second run changes nothing. A name is one that a file right in specs/ or
-proofs/ declares: a definition, a lemma, a constructor or a field. Types keep their capitals, functions of src/ their names, and so does
+It was run once, on what port.py had made of the landed sources, and fits no later text: a second run would turn the names by hand twice. A name
+is one that a file right in specs/ or proofs/ declares: a definition, a lemma, a constructor or a field. Types keep their capitals, functions of src/ their names, and so does
 what Rattle makes. It turns the code of .antt files, the clauses of .rt files, the lines of must-fail edits, and code spans in comments and
 pages. --list prints the table of names and stops.
 """
