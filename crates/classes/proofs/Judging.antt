@@ -5,13 +5,14 @@ use mathlib.Core.Path.{◌≡◌, refl, sym, ap, ◌∙◌}
 use mathlib.Core.List.{List}
 use native.Mathlib.Omega.{arith}
 use native.Mathlib.Numerals.{add-one}
-use lib.ListN.{length, get_or, drop, length-append, length-drop}
-use lib.Seq.{drop-drop, get_or-drop}
+use lib.ListN.{length, get_or, take, drop, length-append, length-drop}
+use lib.Seq.{drop-drop, get_or-drop, take_all}
 use Rattle.answer.specs.declared.Refusal.{Refusal}
 use Rattle.answer.specs.Meant.{refusal_of}
 use Rattle.meaning.specs.Sheet.{Read, refused, value, read_classes_from, reading_of_classes}
 use Rattle.classes.specs.declared.Reading.{Reading}
 use Rattle.classes.specs.declared.Reading.TheVariants.{Good, Refused}
+use Rattle.classes.specs.declared.Record.{Record}
 use Rattle.classes.specs.declared.Record.TheVariants.{Class, Last}
 use Rattle.classes.specs.Grouping.{read_of, classes_in, Recorded, Judged, classes_after, Grouped}
 use Rattle.classes.proofs.Records.{class-whole}
@@ -29,6 +30,13 @@ module _ (n : ℕ) (rest : List ℕ) (at count : ℕ) where
       → Recorded n rest at count (Last Good)
   unfolding Recorded read_of
   ends_good like some reads = record { reads = reads; whole = λ e. (like, some) }
+
+-- what is found in the part of a file from an offset on is found in its rest
+pub recorded_rest : (n : ℕ) (file : List ℕ) (at count : ℕ) (r : Record) → Recorded n (take (length file - at) (drop at file)) at count r
+    → Recorded n (drop at file) at count r
+recorded_rest n file at count r found =
+    let all : length (drop at file) ≤ length file - at = omega (arith, length-drop at file) in
+    rw (take_all (length file - at) (drop at file) all) at found
 
 pub classes-length : (file : List ℕ) (i : ℕ) → length (classes_in file i) ≡ i
 unfolding classes_in

@@ -45,6 +45,10 @@ pub record Front (rest : List ℕ) (s : Sheet) (k a b : ℕ) : Type 0 where
   pub first : a ≡ get_or rest 1 0
   pub second : b ≡ get_or rest 2 0
 
+pub front : (rest : List ℕ) (s : Sheet) {k a b : ℕ} → Kept s → 0 < length rest → k ≡ get_or rest 0 0 → a ≡ get_or rest 1 0 → b ≡ get_or rest 2 0
+    → Front rest s k a b
+front rest s kept some kind first second = record { kept = kept; some = some; kind = kind; first = first; second = second }
+
 module _ {rest : List ℕ} {s : Sheet} {k a b : ℕ} (f : Front rest s k a b) where
   length_body : length (drop 1 rest) ≡ length rest - 1
   length_body = length-drop 1 rest

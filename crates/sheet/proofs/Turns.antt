@@ -1,11 +1,11 @@
 -- The reading of a file, record by record: what holds at every turn, and what is found where it ends. Assumes nothing.
 use mathlib.Core.Path.{◌≡◌, refl, sym, ap, ◌∙◌}
 use mathlib.Core.List.{List, [], ◌∷◌}
-use Prim.Native.Nat.{ℕ, zero, suc, ◌+◌, ◌≤◌, ◌<◌}
+use Prim.Native.Nat.{ℕ, zero, suc, ◌+◌, ◌-◌, ◌≤◌, ◌<◌}
 use native.Mathlib.Omega.{arith}
-use lib.ListN.{length, get_or, drop, length-drop, drop_of_length-le}
+use lib.ListN.{length, get_or, take, drop, length-drop, drop_of_length-le}
 use lib.Dec.{eqb}
-use lib.Seq.{drop-drop}
+use lib.Seq.{drop-drop, take_all}
 use borrow.Author.Tests.{eq-eqb, ne_eqb, eqb-true, eqb-false}
 use Rattle.meaning.specs.Numbers.{OUTPUT, END}
 use Rattle.meaning.specs.Sheet as paper
@@ -105,6 +105,14 @@ pub record Ahead (file : List ℕ) (p : Part) (at : ℕ) (r : Record) : Type 0 w
   pub turn : Turn file p at
   pub inside : at < length file
   pub judged : Judged (drop at file) p.sheet r
+
+-- the part of a file from an offset on is its rest
+pub rest_from : (file : List ℕ) (at : ℕ) → take (length file - at) (drop at file) ≡ drop at file
+rest_from file at = take_all (length file - at) (drop at file) (omega (arith, length-drop at file))
+
+pub ahead : {file : List ℕ} {p : Part} {at : ℕ} {r : Record} → Turn file p at → at < length file
+    → Judged (take (length file - at) (drop at file)) p.sheet r → Ahead file p at r
+ahead {file} {p} {at} {r} turn inside judged = record { turn = turn; inside = inside; judged = rw (rest_from file at) at judged }
 
 module _ {file : List ℕ} {p : Part} {at : ℕ} {r : Record} (h : Ahead file p at r) where
   some : 0 < length (drop at file)

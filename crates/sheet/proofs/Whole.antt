@@ -1,10 +1,11 @@
 -- Laws of stored sheets: their lists place by place, and that two that are one sheet of the paper's are equal. Assumes nothing.
 use mathlib.Core.Path.{◌≡◌, refl, sym, ap, ◌∙◌}
-use mathlib.Core.List.{List, [], ◌∷◌, map}
-use Prim.Native.Nat.{ℕ, zero, suc, ◌<◌}
+use mathlib.Core.List.{List, map}
+use Prim.Native.Nat.{ℕ, ◌<◌}
 use native.Mathlib.Omega.{arith}
 use lib.ListN.{length, get_or, take, length-map}
 use lib.Seq.{get_or-take}
+use Rattle.std.proofs.lemmas.List.{get_or-map}
 use Rattle.meaning.specs.Numbers.{max_signals, max_outputs}
 use Rattle.meaning.specs.Basic.{keep}
 use Rattle.meaning.specs.Sheet as paper
@@ -17,16 +18,11 @@ use Rattle.sheet.proofs.Right.{right_same}
 
 -- ## Place by place
 
-get_d_map : {A B : Type 0} (f : A → B) (l : List A) (i : ℕ) (d : A) (e : B) → i < length l → get_or (map f l) i e ≡ f (get_or l i d)
-get_d_map f [] i d e h = absurd (omega arith)
-get_d_map f (x ∷ l) zero d e h = refl
-get_d_map f (x ∷ l) (suc i) d e h = get_d_map f l i d e (omega arith)
-
 -- element i of the used places, each as what it stands for
 pub used_at : {A B : Type 0} (f : A → B) {m : ℕ} (none : A) (l : List A) (n : ℕ) → Places m none l n
     → (i : ℕ) (e : B) → i < n → get_or (map f (take n l)) i e ≡ f (get_or l i none)
 used_at f none l n p i e h =
-    get_d_map f (take n l) i none e (omega (arith, length_used l n p)) ∙ ap f (get_or-take n l i none h)
+    get_or-map f (take n l) i none e (omega (arith, length_used l n p)) ∙ ap f (get_or-take n l i none h)
 
 module _ (s : Sheet) (k : Kept s) where
   pub length_signals : length (sheet_of s).signals ≡ s.signals

@@ -13,14 +13,8 @@ loop-i-init c =
 pub class_at-requires : goal.class_at-requires
 class_at-requires c = omega arith
 
--- mul-classes : tie.Need-overflow-mul-classes invariant-loop decreases-loop
--- mul-classes c = omega arith
-
 pub bounds-classes-i : goal.bounds-classes-i
 bounds-classes-i c = omega arith
-
--- add-i : tie.Need-overflow-add-i invariant-loop decreases-loop
--- add-i c = omega arith
 
 pub loop-i-smaller : goal.loop-i-smaller
 loop-i-smaller c = omega arith

@@ -1,10 +1,7 @@
 -- The signals are put one after the other. Assumes nothing.
 use Prim.Native.Nat.{◌-◌}
-use Rattle.meaning.specs.Sheet as paper
 use Rattle.sheet.specs.Stored.{sheet_of}
 use Rattle.sheet.proofs.Puts.{Puts}
-use Rattle.meaning.specs.Sheet as paper
-use Rattle.meaning.specs.Sheet as paper
 use Rattle.meaning.specs.Sheet as paper
 use Rattle.sheet.proofs.writer.put_signals.Given as goal
 
