@@ -1,5 +1,6 @@
 -- Answers that mean the same are equal: each answer of the paper's is meant by one enum case only. Assumes nothing.
 use mathlib.Core.Path.{◌≡◌, refl, sym, ap, ◌∙◌}
+use Rattle.std.specs.Prelude.{Result, Ok, Err}
 use Rattle.meaning.specs.Numbers as paper
 use Rattle.meaning.specs.Answer as paper-answer
 use Rattle.answer.specs.declared.Refusal.{Refusal}
@@ -8,9 +9,10 @@ use Rattle.answer.specs.declared.File.{File}
 use Rattle.answer.specs.declared.File.TheVariants.{A, B, Grouping, Nothing}
 use Rattle.answer.specs.declared.Reason.{Reason}
 use Rattle.answer.specs.declared.Reason.TheVariants.{Start, Step, Outputs}
-use Rattle.answer.specs.declared.Answer.{Answer}
-use Rattle.answer.specs.declared.Answer.TheVariants.{Equivalent, Undecided, Wrote, Refused}
-use Rattle.answer.specs.Meant.{refusal_of, file_of, reason_of, answer_of}
+use Rattle.answer.specs.declared.Refused.{Refused}
+use Rattle.answer.specs.declared.Done.{Done}
+use Rattle.answer.specs.declared.Done.TheVariants.{Equivalent, Undecided, Wrote}
+use Rattle.answer.specs.Meant.{refusal_of, file_of, reason_of, done_of, answer_of}
 
 -- ## The enum case that means an answer
 
@@ -40,11 +42,11 @@ means_reason paper.START = Start
 means_reason paper.STEP = Step
 means_reason paper.OUTPUTS = Outputs
 
-means_answer : paper-answer.Answer → Answer
-means_answer (paper-answer.equivalent r nodes) = Equivalent r nodes
-means_answer (paper-answer.undecided why i r nodes) = Undecided (means_reason why) i r nodes
-means_answer (paper-answer.wrote k) = Wrote k
-means_answer (paper-answer.refusal k file at) = Refused (means_refusal k) (means_file file) at
+means_answer : paper-answer.Answer → Result Done Refused
+means_answer (paper-answer.equivalent r nodes) = Ok (Equivalent r nodes)
+means_answer (paper-answer.undecided why i r nodes) = Ok (Undecided (means_reason why) i r nodes)
+means_answer (paper-answer.wrote k) = Ok (Wrote k)
+means_answer (paper-answer.refusal k file at) = Err (record { refusal = means_refusal k; file = means_file file; at = at })
 
 -- ## Each case means one that only it means
 
@@ -77,15 +79,15 @@ reason_meant Start = refl
 reason_meant Step = refl
 reason_meant Outputs = refl
 
-answer_meant : (a : Answer) → means_answer (answer_of a) ≡ a
-unfolding answer_of means_answer
-answer_meant (Equivalent r nodes) = refl
-answer_meant (Undecided why i r nodes) = rw (reason_meant why)
-answer_meant (Wrote k) = refl
-answer_meant (Refused k file at) = rw (refusal_meant k, file_meant file)
+answer_meant : (a : Result Done Refused) → means_answer (answer_of a) ≡ a
+unfolding answer_of done_of means_answer
+answer_meant (Ok (Equivalent r nodes)) = refl
+answer_meant (Ok (Undecided why i r nodes)) = rw (reason_meant why)
+answer_meant (Ok (Wrote k)) = refl
+answer_meant (Err r) = rw (refusal_meant r.refusal, file_meant r.file)
 
 pub refusal_same : (j k : Refusal) → refusal_of j ≡ refusal_of k → j ≡ k
 refusal_same j k e = sym (refusal_meant j) ∙ ap means_refusal e ∙ refusal_meant k
 
-pub answer_same : (a b : Answer) → answer_of a ≡ answer_of b → a ≡ b
+pub answer_same : (a b : Result Done Refused) → answer_of a ≡ answer_of b → a ≡ b
 answer_same a b e = sym (answer_meant a) ∙ ap means_answer e ∙ answer_meant b

@@ -2,11 +2,11 @@
 -- Assumes nothing.
 use Prim.Native.Nat.{ℕ, zero, suc, ◌+◌, ◌*◌, ◌<◌, ◌≤◌}
 use mathlib.Core.Path.{◌≡◌, refl, sym, ap}
-use mathlib.Core.List.{List, [], ◌∷◌, ◌++◌, append_assoc, append-nil}
+use mathlib.Core.List.{List, [], ◌∷◌, ◌++◌, append_assoc}
 use native.Mathlib.Numerals.{add-one}
 use native.Mathlib.Omega.{arith}
 use lib.ListN.{length, get_or, set, take, drop, length-append}
-use lib.Seq.{take_all, drop-cons, drop-length, set_at}
+use lib.Seq.{take_all, drop-cons, set_at}
 use Rattle.meaning.specs.Numbers.{CLASS, END}
 use Rattle.meaning.specs.Basic.{concat_map}
 use Rattle.meaning.specs.Sheet.{bytes_of_classes}
@@ -27,9 +27,6 @@ module _ (file old : List ℕ) where
   unfolding classes_in
   classes_more now i x inside is so =
       rw (so, front_more (classes_in file i) old i x (classes-length file i) inside, is, add-one i)
-
-  pub classes_all : (now : List ℕ) (i : ℕ) → i ≡ length old → now ≡ classes_in file i ++ drop i old → now ≡ classes_in file (length old)
-  classes_all now i all so = rw (so, all, drop-length, append-nil)
 
 -- ## The records of classes, written over an old result
 

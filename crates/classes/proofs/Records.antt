@@ -29,10 +29,10 @@ module _ (n at : ℕ) (cs : List ℕ) where
   class-whole (k ∷ []) two class = absurd (omega arith)
   class-whole (k ∷ c ∷ rest) two class = simp (eq-eqb _ _ class)
 
-  pub unknown : (rest : List ℕ) → (length rest ≡ 0 → ⊥) → (get_or rest 0 0 ≡ CLASS → ⊥) → (get_or rest 0 0 ≡ END → ⊥)
+  pub unknown : (rest : List ℕ) → 0 < length rest → (get_or rest 0 0 ≡ CLASS → ⊥) → (get_or rest 0 0 ≡ END → ⊥)
       → refused KIND at ≡ read_classes_from n rest at cs
   unfolding read_classes_from
-  unknown [] some other no_end = absurd (some refl)
+  unknown [] some other no_end = absurd (omega arith)
   unknown (k ∷ []) some other no_end = simp (ne_eqb _ _ other, ne_eqb _ _ no_end)
   unknown (k ∷ c ∷ rest) some other no_end = simp (ne_eqb _ _ other, ne_eqb _ _ no_end)
 

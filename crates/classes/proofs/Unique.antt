@@ -1,26 +1,26 @@
 -- What is read of a grouping is determined: two answers that meet the contract are equal, and so are the classes. Assumes nothing.
+use Rattle.std.specs.Prelude.{Result, Ok, Err}
 use Prim.Native.Nat.{ℕ}
-use mathlib.Core.Path.{◌≡◌, refl, sym, ◌∙◌}
+use mathlib.Core.Path.{◌≡◌, refl, sym, ap₂, ◌∙◌}
 use mathlib.Core.List.{List}
-use native.Mathlib.Omega.{arith}
-use Rattle.answer.specs.Meant.{refusal_of}
+use Rattle.answer.specs.declared.Refusal.{Refusal}
+use Rattle.answer.specs.declared.Fault.{Fault}
+use Rattle.answer.specs.Meant.{refusal_of, read_by}
 use Rattle.answer.proofs.Same.{refusal_same}
-use Rattle.classes.specs.declared.Reading.{Reading}
-use Rattle.classes.specs.declared.Reading.TheVariants.{Good, Refused}
-use Rattle.classes.specs.Grouping.{read_of, Grouped}
+use Rattle.classes.specs.Grouping.{Grouped}
 
-reading_same : (r r' : Reading) (cs cs' : List ℕ) → read_of r cs ≡ read_of r' cs' → r ≡ r'
-unfolding read_of
-reading_same Good Good cs cs' e = refl
-reading_same Good (Refused k at) cs cs' e = let z : ◌≡◌ {A = ℕ} 0 1 = cc in absurd (omega arith)
-reading_same (Refused k at) Good cs cs' e = let z : ◌≡◌ {A = ℕ} 0 1 = cc in absurd (omega arith)
-reading_same (Refused k at) (Refused k' at') cs cs' e =
-    let said : refusal_of k ≡ refusal_of k' = cc in
-    let same : k ≡ k' = refusal_same k k' said in
-    let place : at ≡ at' = cc in
-    rw (same, place)
+reading_same : (r r' : Result Unit Fault) (cs cs' : List ℕ) → read_by (λ _. cs) r ≡ read_by (λ _. cs') r' → r ≡ r'
+unfolding read_by
+reading_same (Ok v) (Ok v') cs cs' e = refl
+reading_same (Ok v) (Err f) cs cs' e = absurd (cc)
+reading_same (Err f) (Ok v) cs cs' e = absurd (cc)
+reading_same (Err f) (Err f') cs cs' e =
+    let said : refusal_of f.refusal ≡ refusal_of f'.refusal = cc in
+    let same : f.refusal ≡ f'.refusal = refusal_same f.refusal f'.refusal said in
+    let place : f.at ≡ f'.at = cc in
+    ap₂ (λ (k : Refusal) (at : ℕ). Err (record { refusal = k; at = at })) same place
 
-module _ (file old : List ℕ) (r r' : Reading) (new new' : List ℕ) (one : Grouped file old r new) (other : Grouped file old r' new') where
+module _ (file old : List ℕ) (r r' : Result Unit Fault) (new new' : List ℕ) (one : Grouped file old r new) (other : Grouped file old r' new') where
   pub reading_unique : r ≡ r'
   reading_unique = reading_same r r' new new' (one.reading ∙ sym other.reading)
 

@@ -1,212 +1,173 @@
-// Check and refine on two sheets that are alike: start room, START, step room, STEP and outputs, round by round.
+// Check and refine on two sheets that are alike: start room, START, step room, STEP and outputs, round by round. Ids and groupings stand in
+// the first places of arrays: an ArrayVec would first be filled with zeros and cut, as they are put into places.
 #![tactic(auto)]
 
-ghost use Rattle.std.specs.Prelude.{◌≡◌, ◌<◌, ◌≤◌, length};
+ghost use Rattle.std.specs.Prelude.{◌≡◌, ◌<◌, length, MatchOption};
+ghost use Rattle.arrayvec.specs.ArrayVec.{array_vec_len};
+ghost use Rattle.meaning.specs.Joint.{paired, output_fault};
 ghost use Rattle.meaning.specs.Answer.{outputs_verdict};
 ghost use Rattle.answer.specs.Meant.{answer_of};
-ghost use Rattle.groups.specs.ByIds.{same_by};
 ghost use Rattle.work.specs.Lists.{left, right, joint};
 ghost use Rattle.work.specs.Stages.{Front};
-ghost use Rattle.correspond.specs.Verdicts.{Shown, unpaired_by, Grouped, CheckSays, RoundSays, SettleSays, RefineSays};
+ghost use Rattle.correspond.specs.Verdicts.{Grouped, out_of_room, CheckSays, RoundSays, SettleSays, RefineSays};
 
-use answer::{Answer, File, Reason, Refusal};
-use diagram::Head;
-use diagram::forget::forget;
-use fill::Worked;
-use groups::{copy, fault, same_groups, split};
+use answer::{Answer, Done, File, Reason, Refusal, Refused};
+use diagram::Full;
+use diagram::table::Table;
+use groups::{fault, split};
 use sheet::Sheet;
-use work::{Pair, front_list, start_list, step_list};
+use work::{Normals, Pair, front_list, start_list, step_list};
 
-fn no_room(list: usize) -> Answer
-    ensures { result ≡ Answer.Refused Refusal.NoRoom File.Nothing list }
+// A list has no room: 0 is the start list, r + 1 the step list of T_r.
+fn no_room(list: usize) -> Refused
+    ensures { result ≡ out_of_room list }
 {
-    Answer::Refused(Refusal::NoRoom, File::Nothing, list)
+    Refused {
+        refusal: Refusal::NoRoom,
+        file: File::Nothing,
+        at: list,
+    }
 }
 
-// Whether two joint signals are in one class and have the same polarity.
-fn go_together(plain: &[u8], g: &[u16], u: usize, v: usize) -> bool
-    requires { (u < length g.now) × (v < length g.now) × (length g.now ≤ length plain.now) }
-    ensures { result ≡ same_by g.now plain.now u v }
+// Whether the signals that output i names on the one sheet and on the other are in one class and have the same polarity.
+// Grouped stays a clause, here and below: check_pair, which docs/DECISIONS.md names, may not ask for a narrower type, nor may refine_pair.
+#[tactic(auto, using(crate::proofs::Pairing::in_a, crate::proofs::Pairing::in_b, crate::proofs::Pairing::paired_plain, crate::proofs::Pairing::not_paired))]
+fn is_paired(p: &Pair, g: &[u16], i: usize) -> bool
+    requires grouped { Grouped p.now g.now }
+    requires output { i < array_vec_len p.now.a.outputs }
+    ensures { result ≡ paired (left p.now) (right p.now) g.now i }
 {
-    if g[u] != g[v] {
-        return false;
-    }
-    plain[u] == plain[v]
+    let u = usize::from(p.a.outputs[i].signal);
+    let v = p.a.signals.len() + usize::from(p.b.outputs[i].signal);
+    g[u] == g[v] && p.plain[u] == p.plain[v]
 }
 
-// The least unpaired output; their number where all are paired.
-fn unpaired(a: Sheet, b: Sheet, plain: &[u8], g: &[u16]) -> usize
-    requires { Shown a b plain.now g.now }
-    ensures { (result ≡ unpaired_by a b plain.now g.now) × (result ≤ a.outputs) }
+// The least unpaired output, if there is one.
+fn unpaired(p: &Pair, g: &[u16]) -> Option<usize>
+    requires { Grouped p.now g.now }
+    ensures { MatchOption result (output_fault (left p.now) (right p.now) g.now ≡ array_vec_len p.now.a.outputs) (λ i. (i ≡ output_fault (left p.now) (right p.now) g.now) × (i < array_vec_len p.now.a.outputs)) }
 {
-    let mut i = 0;
-    while i < a.outputs {
-        let x = a.output[i];
-        let y = b.output[i];
-        let u = x.signal as usize;
-        let v = a.signals + y.signal as usize;
-        if !go_together(plain, g, u, v) {
-            return i;
-        }
-        i += 1;
-    }
-    i
+    (0..p.a.outputs.len()).find(|i| !is_paired(p, g, *i))
 }
 
 // The verdict on the outputs, with the rounds and the nodes.
-fn outputs(p: Pair, g: &[u16], rounds: usize, nodes: usize) -> Answer
-    requires { Grouped p g.now }
-    ensures { answer_of result ≡ outputs_verdict (left p) (right p) g.now rounds nodes }
+#[tactic(auto, using(crate::proofs::Pairing::outputs_unpaired, crate::proofs::Pairing::outputs_paired))]
+fn outputs(p: &Pair, g: &[u16], rounds: usize, nodes: usize) -> Answer
+    requires { Grouped p.now g.now }
+    ensures { answer_of result ≡ outputs_verdict (left p.now) (right p.now) g.now rounds nodes }
 {
-    let plain = p.plain;
-    let i = unpaired(p.a, p.b, &plain, g);
-    if i < p.a.outputs {
-        return Answer::Undecided(Reason::Outputs, i, rounds, nodes);
+    match unpaired(p, g) {
+        Some(i) => Ok(Done::Undecided(Reason::Outputs, i, rounds, nodes)),
+        None => Ok(Done::Equivalent(rounds, nodes)),
     }
-    Answer::Equivalent(rounds, nodes)
 }
 
-// Start room, START, step room, STEP, outputs. The ids are put into the lent arrays: those of the lists, and of all h now and one tick on.
-pub fn check_pair(
-    t: &mut [u16],
-    p: Pair,
-    g: &[u16],
-    ids: &mut [u16],
-    h: &mut [u16],
-    h_next: &mut [u16],
-) -> Answer
-    requires { Grouped p g.now × (length ids.old ≡ joint p) × (length h.old ≡ joint p) × (length h_next.old ≡ joint p) }
-    ensures { CheckSays p g.now t.old t.new result }
+// Start room, START, step room, STEP, outputs. Each stage is opened by a let-else, a form that the yard asked for by name.
+// refine_pair begins alike: the arrays stand in the frame of the call, so no function could make them for both.
+#[tactic(auto, using(crate::proofs::Pairing::enough_places), unfolding(work::specs::Stages::FrontSays))]
+pub fn check_pair(t: &mut [u16], p: &Pair, g: &[u16]) -> Answer
+    requires { Grouped p.now g.now }
+    ensures { CheckSays p.now g.now t.old t.new result }
 {
     let n = g.len();
-    let start = start_list(t, Head::new(), p, ids);
-    let Worked::Done(first) = start else {
-        return no_room(0);
+    let mut ids = [0u16; Sheet::JOINT];
+    let mut h = [0u16; Sheet::JOINT];
+    let mut h_next = [0u16; Sheet::JOINT];
+    let ids = &mut ids[..n];
+    let h = &mut h[..n];
+    let h_next = &mut h_next[..n];
+    let mut table = Table::new(t);
+    let Ok(()) = start_list(&mut table, p, ids) else {
+        return Err(no_room(0));
     };
-    let v = fault(g, ids);
-    if v < n {
-        return Answer::Undecided(Reason::Start, v, 0, first.most);
+    if let Some(v) = fault(g, ids) {
+        return Ok(Done::Undecided(Reason::Start, v, 0, table.head.most));
     }
-    let begun = front_list(t, first, p, h, h_next);
-    let Worked::Done(front) = begun else {
-        return no_room(1);
+    let Ok(()) = front_list(&mut table, p, h, h_next) else {
+        return Err(no_room(1));
     };
-    let step = step_list(t, front, p, g, h, h_next, ids);
-    let Worked::Done(second) = step else {
-        return no_room(1);
+    let Ok(()) = step_list(&mut table, p, g, Normals { h, h_next }, ids) else {
+        return Err(no_room(1));
     };
-    let w = fault(g, ids);
-    if w < n {
-        return Answer::Undecided(Reason::Step, w, 0, second.most);
+    if let Some(w) = fault(g, ids) {
+        return Ok(Done::Undecided(Reason::Step, w, 0, table.head.most));
     }
-    outputs(p, g, 0, second.most)
+    outputs(p, g, 0, table.head.most)
 }
 
-// How one round ends: the grouping stays, it splits, or its step list has no room.
-#[derive(Clone, Copy)]
-pub enum Round {
-    Stays(Head),
-    Splits(Head),
-    Over,
+// How a round ends for which there is room: the grouping stays, or it splits.
+#[derive(Clone, Copy, Debug, PartialEq, Eq)]
+enum Round {
+    Stays,
+    Splits,
 }
 
-// One round: g split by the step rule under g. The ids and the grouping that comes next are put into the lent arrays. The table comes with the
-// front of the step list, and where the grouping splits it has the front again.
-fn one_round(
-    t: &mut [u16],
-    head: Head,
-    p: Pair,
-    g: &mut [u16],
-    ids: &mut [u16],
-    next: &mut [u16],
-    h: &[u16],
-    h_next: &[u16],
-) -> Round
-    requires { Grouped p g.old × (length ids.old ≡ joint p) × (length next.old ≡ joint p) × Front p t.old head h.now h_next.now }
-    ensures { RoundSays p h.now h_next.now g.old t.old head t.new g.new result }
+// One round: g split by the step rule under g. The table comes with the front of the step list, and where the grouping splits it has
+// the front again. Front stays a clause: step_list, which docs/PROMISES.md names, may not ask for a narrower type.
+#[tactic(auto, using(crate::proofs::Pairing::enough_places))]
+fn one_round(table: &mut Table, p: &Pair, g: &mut [u16], normals: Normals) -> Result<Round, Full>
+    requires grouped { Grouped p.now g.old }
+    requires front { Front p.now table.old.words.now table.old.head normals.h.now normals.h_next.now }
+    ensures same_reference { table.new.words.ghost_name ≡ table.old.words.ghost_name }
+    ensures round { RoundSays p.now normals.entry.h.now normals.entry.h_next.now g.old table.old.words.now table.old.head table.new.words.now table.new.head g.new result }
 {
-    let step = step_list(t, head, p, g, h, h_next, ids);
-    let Worked::Done(after) = step else {
-        return Round::Over;
-    };
+    let n = g.len();
+    let front = table.head.used;
+    let mut ids = [0u16; Sheet::JOINT];
+    let mut next = [0u16; Sheet::JOINT];
+    let ids = &mut ids[..n];
+    let next = &mut next[..n];
+    step_list(table, p, g, normals, ids)?;
     split(g, ids, next);
-    if same_groups(g, next) {
-        return Round::Stays(after);
+    if *g == *next {
+        return Ok(Round::Stays);
     }
-    copy(next, g);
-    let front = forget(t, after, head.used);
-    Round::Splits(front)
+    g.copy_from_slice(next);
+    table.forget(front);
+    Ok(Round::Splits)
 }
 
-// How the rounds end: after so many that split something, or at the first whose step list has no room.
-#[derive(Clone, Copy)]
-pub enum Settled {
-    After(usize, Head),
-    Over(usize),
-}
-
-// Rounds until the grouping stays. Each round but the last splits a class, so they are fewer than the signals. The front of
-// their step lists is made once: each goes on from it.
-fn settle(
-    t: &mut [u16],
-    head: Head,
-    p: Pair,
-    g: &mut [u16],
-    ids: &mut [u16],
-    next: &mut [u16],
-    h: &[u16],
-    h_next: &[u16],
-) -> Settled
-    requires { Grouped p g.old × (length ids.old ≡ joint p) × (length next.old ≡ joint p) × Front p t.old head h.now h_next.now }
-    ensures { SettleSays p g.old t.old head t.new g.new result }
+// Rounds until the grouping stays: how many split something. Each but the last splits a class, so they are fewer than the signals. The
+// front of their step lists is made once: each goes on from it.
+fn settle(table: &mut Table, p: &Pair, g: &mut [u16], normals: Normals) -> Result<usize, Refused>
+    requires grouped { Grouped p.now g.old }
+    requires front { Front p.now table.old.words.now table.old.head normals.h.now normals.h_next.now }
+    ensures same_reference { table.new.words.ghost_name ≡ table.old.words.ghost_name }
+    ensures settled { SettleSays p.now g.old table.old.words.now table.old.head table.new.words.now table.new.head g.new result }
 {
     let n = g.len();
-    let mut hd = head;
-    let mut r = 0;
-    while r < n {
-        let round = one_round(t, hd, p, g, ids, next, h, h_next);
-        match round {
-            Round::Stays(last) => {
-                return Settled::After(r, last);
-            }
-            Round::Over => {
-                return Settled::Over(r);
-            }
-            Round::Splits(after) => {
-                hd = after;
-                r += 1;
-            }
+    for r in 0..n {
+        match one_round(table, p, g, normals) {
+            Ok(Round::Stays) => return Ok(r),
+            Ok(Round::Splits) => {}
+            Err(_) => return Err(no_room(r + 1)),
         }
     }
-    Settled::After(r, hd)
+    Ok(n)
 }
 
 // Start room, step room of T_0 to T_r, outputs; T_r in g unless there is no room.
-pub fn refine_pair(
-    t: &mut [u16],
-    p: Pair,
-    proposal: &[u16],
-    g: &mut [u16],
-    ids: &mut [u16],
-    next: &mut [u16],
-    h: &mut [u16],
-    h_next: &mut [u16],
-) -> Answer
-    requires { Grouped p proposal.now × (length g.old ≡ joint p) × (length ids.old ≡ joint p) × (length next.old ≡ joint p) × (length h.old ≡ joint p) × (length h_next.old ≡ joint p) }
-    ensures { RefineSays p proposal.now t.old t.new g.new result }
+#[tactic(auto, using(crate::proofs::Pairing::enough_places))]
+pub fn refine_pair(t: &mut [u16], p: &Pair, proposal: &[u16], g: &mut [u16]) -> Answer
+    requires grouped { Grouped p.now proposal.now }
+    requires sized { length g.old ≡ joint p.now }
+    ensures { RefineSays p.now proposal.now t.old t.new g.new result }
 {
-    let start = start_list(t, Head::new(), p, ids);
-    let Worked::Done(first) = start else {
-        return no_room(0);
+    let n = proposal.len();
+    let mut ids = [0u16; Sheet::JOINT];
+    let mut h = [0u16; Sheet::JOINT];
+    let mut h_next = [0u16; Sheet::JOINT];
+    let ids = &mut ids[..n];
+    let h = &mut h[..n];
+    let h_next = &mut h_next[..n];
+    let mut table = Table::new(t);
+    let Ok(()) = start_list(&mut table, p, ids) else {
+        return Err(no_room(0));
     };
     split(proposal, ids, g);
-    let begun = front_list(t, first, p, h, h_next);
-    let Worked::Done(front) = begun else {
-        return no_room(1);
+    let Ok(()) = front_list(&mut table, p, h, h_next) else {
+        return Err(no_room(1));
     };
-    let ended = settle(t, front, p, g, ids, next, h, h_next);
-    match ended {
-        Settled::Over(list) => no_room(list + 1),
-        Settled::After(rounds, last) => outputs(p, g, rounds, last.most),
-    }
+    let rounds = settle(&mut table, p, g, Normals { h, h_next })?;
+    outputs(p, g, rounds, table.head.most)
 }

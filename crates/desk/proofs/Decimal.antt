@@ -1,15 +1,19 @@
 -- The fewest digits that hold a number are those of its decimal. Assumes nothing.
-use Prim.Native.Nat.{ℕ, zero, suc, ◌+◌, ◌-◌, ◌^◌, ◌<◌, ◌≤◌}
-use mathlib.Core.Path.{◌≡◌, sym, ap}
+use Prim.Native.Nat.{ℕ, zero, suc, ◌+◌, ◌-◌, ◌/◌, ◌%◌, ◌^◌, ◌<◌, ◌≤◌}
+use mathlib.Core.Path.{◌≡◌, refl, sym, ap, ◌∙◌}
 use mathlib.Core.Bool.{true, false}
-use mathlib.Core.List.{List, [], ◌∷◌, ◌++◌, append-nil}
+use mathlib.Core.List.{List, [], ◌∷◌, ◌++◌}
 use native.Mathlib.Nat.{pow-le-pow_right, zero-lt-suc, pow-suc}
+use native.Mathlib.Numerals.{unary_clauses}
 use native.Mathlib.Omega.{arith}
 use lib.Dec.{ltb}
 use borrow.Author.Tests.{ltb-true, ltb-false}
-use Rattle.io.specs.Digits.{last_digits, IsDigitCount}
+use Rattle.std.specs.Fmt as printed
+use Rattle.std.proofs.lemmas.Bool.Decides.{nat_tests}
+use Rattle.std.proofs.lemmas.Fmt.{decimal_by_steps}
+use Rattle.io.specs.Digits.{hex_digit_ascii, last_digits, IsDigitCount}
 use Rattle.laws.proofs.Basic.{case_bool}
-use Rattle.desk.specs.Line.{places_from, decimal, figures}
+use Rattle.desk.specs.Line.{places_from, decimal}
 
 pow_ten : (i j : ℕ) → i ≤ j → 10 ^ i ≤ 10 ^ j
 pow_ten i j h = pow-le-pow_right (zero-lt-suc 9) h
@@ -55,14 +59,40 @@ decimal_digits n k fewest =
         omega (arith, l, fewest.2 l, below_power (k - 1)))
         (λ no. omega (arith, ltb-false 1 k no))
 
-pub figure_one : (n k : ℕ) (bytes : List ℕ) → IsDigitCount 10 1 n k → bytes ≡ last_digits 10 k n → (0x20 ∷ []) ++ bytes ≡ figures (n ∷ [])
-unfolding figures
-figure_one n k bytes fewest are = rw (are, decimal_digits n k fewest, append-nil)
+-- A text that is the fewest digits of a number.
+record IsFewest (n : ℕ) (text : List ℕ) : Type 0 where
+  pub count : ℕ
+  pub fewest : IsDigitCount 10 1 n count
+  pub digits : text ≡ last_digits 10 count n
 
--- A number of 64 bits has at most 20 digits.
-pub few_digits : (n k : ℕ) → n < 2 ^ 64 → IsDigitCount 10 1 n k → k ≤ 20
-few_digits n k small fewest =
-    case_bool (ltb 20 k)
-    (λ more. let l : 20 < k = ltb-true 20 k more in
-    absurd (omega (arith, small, fewest.2 (omega arith), pow_ten 20 (k - 1) (omega arith))))
-    (λ no. ltb-false 20 k no)
+digit : (d : ℕ) → d < 10 → 48 + d ≡ hex_digit_ascii d
+digit d h = grind (arith, nat_tests)
+
+one_digit : (n : ℕ) → n < 10 → IsFewest n ((48 + n) ∷ [])
+one_digit n h =
+    let same : n % 10 ≡ n = omega arith in
+    record { count = 1; fewest = (omega arith, omega arith, λ no. absurd (omega arith)); digits = rw (same, ← digit n h) refl }
+
+-- with a digit more behind, no fewer digits would do
+no_fewer : (k n : ℕ) → 1 ≤ k → 10 ≤ n → (1 < k → 10 ^ (k - 1) ≤ n / 10) → 10 ^ k ≤ n
+no_fewer k n some large front =
+    case_bool (ltb 1 k)
+    (λ more. let l : 1 < k = ltb-true 1 k more in
+    let next : k ≡ suc (k - 1) = omega arith in
+    rw next (omega (arith, front l, pow-suc 10 (k - 1))))
+    (λ no. let one : k ≡ 1 = omega (arith, ltb-false 1 k no) in
+    rw one large)
+
+digit_more : (n : ℕ) (text : List ℕ) → 10 ≤ n → IsFewest (n / 10) text → IsFewest n (text ++ ((48 + n % 10) ∷ []))
+digit_more n text h front =
+    let last : n % 10 < 10 = omega arith in
+    record {
+      count = suc front.count;
+      fewest = (omega arith, omega (arith, front.fewest.1, pow-suc 10 front.count), λ _. simp unary_clauses (no_fewer front.count n front.fewest.0 h front.fewest.2));
+      digits = rw (front.digits, ← digit (n % 10) last) refl;
+    }
+
+-- What `{}` writes of a number of 64 bits is its decimal.
+pub printed_decimal : (n : ℕ) → n < 2 ^ 64 → printed.decimal n ≡ decimal n
+printed_decimal n small =
+    let told = decimal_by_steps IsFewest one_digit digit_more n small in told.digits ∙ decimal_digits n told.count told.fewest

@@ -1,4 +1,4 @@
-pub mod Putting
+pub mod Text
 pub mod Decimal
 pub mod Printed
 pub mod Unique

@@ -1,7 +1,9 @@
--- The line of an answer, byte by byte, and bytes that are put one after the other. Assumes nothing.
-use Rattle.std.specs.Prelude.{ℕ, zero, suc, ◌+◌, ◌^◌, ◌≡◌, List, [], ◌∷◌, ◌++◌, length, take, drop, true, false, ltb}
+-- The line of an answer, byte by byte. Assumes nothing.
+use Rattle.std.specs.Prelude.{ℕ, zero, suc, ◌^◌, ◌≡◌, List, [], ◌∷◌, ◌++◌, take, drop, true, false, ltb, codes, Err}
 use Rattle.io.specs.Digits.{last_digits}
 use Rattle.meaning.specs.Answer.{Answer, equivalent, undecided, wrote, refusal, row_of}
+use Rattle.answer.specs.declared.Refused.{Refused}
+use Rattle.answer.specs.Meant.{answer_of}
 use Rattle.desk.specs.declared.line.Mode.{Mode}
 use Rattle.desk.specs.declared.line.Mode.TheVariants.{Check, Refine}
 
@@ -19,17 +21,20 @@ unfoldable pub figures : List ℕ → List ℕ
 figures [] = []
 figures (n ∷ ns) = (0x20 ∷ decimal n) ++ figures ns
 
+abbrev pub name_of_mode : Mode → List ℕ
+name_of_mode Check = codes "check"
+name_of_mode Refine = codes "refine"
+
 -- 'check ' and 'refine '
 unfoldable pub word_of_mode : Mode → List ℕ
-word_of_mode Check = 0x63 ∷ 0x68 ∷ 0x65 ∷ 0x63 ∷ 0x6B ∷ 0x20 ∷ []
-word_of_mode Refine = 0x72 ∷ 0x65 ∷ 0x66 ∷ 0x69 ∷ 0x6E ∷ 0x65 ∷ 0x20 ∷ []
+word_of_mode m = name_of_mode m ++ codes " "
 
 -- What stands before the numbers: mode and verdict, 'wrote' or 'refused'.
 unfoldable pub words : Mode → Answer → List ℕ
-words m (equivalent r nodes) = word_of_mode m ++ (0x45 ∷ 0x51 ∷ 0x55 ∷ 0x49 ∷ 0x56 ∷ 0x41 ∷ 0x4C ∷ 0x45 ∷ 0x4E ∷ 0x54 ∷ [])
-words m (undecided why i r nodes) = word_of_mode m ++ (0x55 ∷ 0x4E ∷ 0x44 ∷ 0x45 ∷ 0x43 ∷ 0x49 ∷ 0x44 ∷ 0x45 ∷ 0x44 ∷ [])
-words m (wrote k) = 0x77 ∷ 0x72 ∷ 0x6F ∷ 0x74 ∷ 0x65 ∷ []
-words m (refusal k file at) = 0x72 ∷ 0x65 ∷ 0x66 ∷ 0x75 ∷ 0x73 ∷ 0x65 ∷ 0x64 ∷ []
+words m (equivalent r nodes) = word_of_mode m ++ codes "EQUIVALENT"
+words m (undecided why i r nodes) = word_of_mode m ++ codes "UNDECIDED"
+words m (wrote k) = codes "wrote"
+words m (refusal k file at) = codes "refused"
 
 -- The numbers of the line are those of the answer's row; a verdict's own number is told by its word.
 unfoldable pub numbers : Answer → List ℕ
@@ -38,12 +43,16 @@ numbers (undecided why i r nodes) = drop 1 (row_of (undecided why i r nodes))
 numbers (wrote k) = row_of (wrote k)
 numbers (refusal k file at) = row_of (refusal k file at)
 
-unfoldable pub line_of : Mode → Answer → List ℕ
-line_of m a = words m a ++ (figures (numbers a) ++ (0x0A ∷ []))
+-- The line without its end.
+unfoldable pub text_of : Mode → Answer → List ℕ
+text_of m a = words m a ++ figures (numbers a)
 
--- Bytes put at a place of a text: they end at r, and what stood before and behind them stays.
-abbrev pub Put : List ℕ → ℕ → List ℕ → List ℕ → ℕ → Type 0
-Put old at bytes new r = (r ≡ at + length bytes) × (take r new ≡ take at old ++ bytes) × (drop r new ≡ drop r old)
+-- The text of a refusal, which no mode stands in.
+unfoldable pub refused_text : Refused → List ℕ
+refused_text r = words Check (answer_of (Err r)) ++ figures (numbers (answer_of (Err r)))
+
+unfoldable pub line_of : Mode → Answer → List ℕ
+line_of m a = words m a ++ (figures (numbers a) ++ codes "\n")
 
 -- A line of r bytes at the start of a text, behind which all stays.
 abbrev pub Lined : List ℕ → List ℕ → ℕ → List ℕ → Type 0

@@ -5,9 +5,11 @@ ghost use Rattle.std.specs.Prelude.{◌≤◌, length};
 ghost use Rattle.io.specs.Counts.{IsPrefixLen};
 
 mod line;
+#[cfg(test)]
+mod tests;
 
 use answer::Answer;
-pub use line::{Mode, put_line};
+pub use line::{Mode, Report, put_line};
 use std::io::Read;
 use std::rt::Files;
 use std::{fs, io, str};
@@ -20,7 +22,8 @@ pub const TABLE: usize = 30000;
 pub const RESULT: usize = 481;
 
 // Puts the first bytes of a file at the start of the buffer, as many as it has space for, and answers how many. A missing file is empty,
-// and so is one that cannot be opened; one whose reading fails ends there.
+// and so is one that cannot be opened; one whose reading fails ends there. A name is any bytes, since a `&str` would ask more of a caller;
+// a buffer and a count, since it is public and promises so, as `Read::read` does.
 pub fn read_file<R: Files>(rt: &R, name: &[u8], buffer: &mut [u8]) -> usize
     ensures { IsPrefixLen result buffer.new }
 {
@@ -38,20 +41,17 @@ fn read_full<F: Read>(file: &mut F, buffer: &mut [u8]) -> usize
     ensures { IsPrefixLen result buffer.new }
 {
     let mut done = 0;
+    // A while: a read gives any number of bytes, so no range counts them.
     while done < buffer.len() {
-        let Ok(count) = file.read(&mut buffer[done..]) else {
-            break;
-        };
-        if count == 0 {
-            break;
+        match file.read(&mut buffer[done..]) {
+            Ok(0) | Err(_) => break,
+            Ok(count) => done += count,
         }
-        done += count;
     }
     done
 }
 
 pub fn print_answer<R: Print>(rt: &R, mode: Mode, answer: Answer) -> io::Result<()> {
-    let mut text = [0u8; 128];
-    let count = put_line(mode, answer, &mut text);
-    rt.write_all(&text[..count])
+    let report = Report { mode, answer };
+    println!(rt; "{report}")
 }

@@ -1,107 +1,136 @@
 // The line of an answer: mode, verdict, reason, index, rounds, nodes; or refused, number, file, position.
-ghost use Rattle.std.specs.Prelude.{[], ◌∷◌, ◌++◌, ◌+◌, ◌≤◌, length};
+ghost use Rattle.std.specs.Prelude.{◌≡◌, ◌++◌, ◌*◌, ◌+◌, ◌≤◌, length, Some, Err};
 ghost use Rattle.io.specs.Counts.{IsPrefixLen};
+ghost use Rattle.arrayvec.specs.ArrayString.{array_string_len};
 ghost use Rattle.answer.specs.Meant.{answer_of};
-ghost use Rattle.desk.specs.Line.{Put, figures, word_of_mode, words, numbers, line_of, Lined};
+ghost use Rattle.std.specs.Fmt.{DisplaysOnOk};
+ghost use Rattle.desk.specs.Line.{figures, name_of_mode, refused_text, text_of, line_of, Lined};
 
-use answer::{Answer, file_number, number, reason_number};
+use answer::{Answer, Done, Refused};
+use arrayvec::ArrayString;
+use itoa::Buffer;
+use std::fmt;
 
-#[derive(Clone, Copy)]
+#[derive(Clone, Copy, Debug, PartialEq, Eq)]
 pub enum Mode {
     Check,
     Refine,
 }
 
-// Puts bytes from a place on, and answers the place behind them.
-fn put(bytes: &[u8], out: &mut [u8], at: usize) -> usize
-    requires { at + length bytes.now ≤ length out.old }
-    ensures { Put out.old at bytes.now out.new result }
-{
-    let mut i = 0;
-    while i < bytes.len() {
-        out[at + i] = bytes[i];
-        i = i + 1;
-    }
-    at + i
-}
-
-// A space and a number in decimal; one of 64 bits has at most 20 digits.
-fn figure(n: u64, out: &mut [u8], at: usize) -> usize
-    requires { at + 21 ≤ length out.old }
-    ensures { Put out.old at (figures (n ∷ [])) out.new result × (result ≤ at + 21) }
-{
-    let mut digits = [0u8; 20];
-    let count = io::decimal(n, &mut digits);
-    let after = put(b" ", out, at);
-    put(&digits[..count], out, after)
-}
-
-fn three(a: u64, b: u64, c: u64, out: &mut [u8], at: usize) -> usize
-    requires { at + 63 ≤ length out.old }
-    ensures { Put out.old at (figures (a ∷ b ∷ c ∷ [])) out.new result × (result ≤ at + 63) }
-{
-    let after_a = figure(a, out, at);
-    let after_b = figure(b, out, after_a);
-    figure(c, out, after_b)
-}
-
-fn mode_word(mode: Mode, out: &mut [u8]) -> usize
-    requires { 7 ≤ length out.old }
-    ensures { Put out.old 0 (word_of_mode mode) out.new result × (result ≤ 7) }
-{
-    match mode {
-        Mode::Check => put(b"check ", out, 0),
-        Mode::Refine => put(b"refine ", out, 0),
+impl Mode {
+    pub fn name(self) -> &'static str
+        ensures { result.now ≡ name_of_mode self }
+    {
+        match self {
+            Mode::Check => "check",
+            Mode::Refine => "refine",
+        }
     }
 }
 
-// The line without its end.
-fn put_answer(mode: Mode, answer: Answer, out: &mut [u8]) -> usize
-    requires { 101 ≤ length out.old }
-    ensures { Put out.old 0 (words mode (answer_of answer) ++ figures (numbers (answer_of answer))) out.new result × (result ≤ 101) }
+impl fmt::Display for Mode {
+    ghost output = { λ m. Some (name_of_mode m) };
+
+    fn fmt<W: fmt::Write>(&self, f: &mut fmt::Formatter<W>) -> fmt::Result {
+        f.write_str(self.name())
+    }
+}
+
+// An answer as a program tells it, on one line.
+#[derive(Clone, Copy, Debug, PartialEq, Eq)]
+pub struct Report {
+    pub mode: Mode,
+    pub answer: Answer,
+}
+
+#[tactic(auto, using(crate::proofs::Text::equivalent_text, crate::proofs::Text::undecided_text, crate::proofs::Text::wrote_text, crate::proofs::Text::refused_anyhow), unfolding(answer::specs::Meant::answer_of, answer::specs::Meant::done_of))]
+impl fmt::Display for Report {
+    ghost output = { λ r. Some (text_of r.mode (answer_of r.answer)) };
+
+    fn fmt<W: fmt::Write>(&self, f: &mut fmt::Formatter<W>) -> fmt::Result {
+        let mode = self.mode;
+        match self.answer {
+            Ok(Done::Equivalent(rounds, nodes)) => {
+                write!(f, "{mode} EQUIVALENT 0 0 {rounds} {nodes}")
+            }
+            Ok(Done::Undecided(why, i, rounds, nodes)) => {
+                let reason = u8::from(why);
+                write!(f, "{mode} UNDECIDED {reason} {i} {rounds} {nodes}")
+            }
+            Ok(Done::Wrote(length)) => write!(f, "wrote {length}"),
+            Err(refused) => write_refused(refused, f),
+        }
+    }
+}
+
+// A function of its own, since a number that is passed by value keeps its range, as one read behind the reference does not.
+#[tactic(auto, using(crate::proofs::Text::refusal_text), unfolding(answer::specs::Meant::answer_of, crate::specs::Line::refused_text, crate::specs::Line::text_of))]
+fn write_refused<W: fmt::Write>(refused: Refused, f: &mut fmt::Formatter<W>) -> fmt::Result
+    ensures { DisplaysOnOk W.write_str_gives f.old result (Some (refused_text refused)) f.new }
+{
+    let Refused { refusal, file, at } = refused;
+    let what = u8::from(refusal);
+    let place = u8::from(file);
+    write!(f, "refused {what} {place} {at}")
+}
+
+// A space and a number in decimal, for each of the numbers; one of 64 bits has at most 20 digits.
+#[tactic(auto, using(crate::proofs::Text::figures_more), unfolding(crate::specs::Line::figures))]
+fn push_figures(numbers: &[u64], line: &mut ArrayString<128>)
+    requires { array_string_len line.old + 21 * length numbers.now ≤ 128 }
+    ensures bytes { line.new.bytes ≡ line.old.bytes ++ figures numbers.now }
+    ensures len { array_string_len line.new ≤ array_string_len line.old + 21 * length numbers.now }
+{
+    let mut digits = Buffer::new();
+    for n in numbers {
+        line.push_str(" ");
+        line.push_str(digits.format(*n));
+    }
+}
+
+// What a `Report` writes. Casts, since there is no From<usize> for u64.
+#[tactic(auto, unfolding(answer::specs::Meant::answer_of, answer::specs::Meant::done_of, meaning::specs::Answer::row_of, crate::specs::Line::words, crate::specs::Line::word_of_mode, crate::specs::Line::numbers, crate::specs::Line::text_of))]
+fn push_answer(mode: Mode, answer: Answer, line: &mut ArrayString<128>)
+    requires { array_string_len line.old ≡ 0 }
+    ensures bytes { line.new.bytes ≡ text_of mode (answer_of answer) }
+    ensures len { array_string_len line.new ≤ 101 }
 {
     match answer {
-        Answer::Equivalent(rounds, nodes) => {
-            let begun = mode_word(mode, out);
-            let named = put(b"EQUIVALENT", out, begun);
-            let told = three(0, 0, rounds as u64, out, named);
-            figure(nodes as u64, out, told)
+        Ok(Done::Equivalent(rounds, nodes)) => {
+            line.push_str(mode.name());
+            line.push_str(" EQUIVALENT");
+            push_figures(&[0, 0, rounds as u64, nodes as u64], line);
         }
-        Answer::Undecided(why, i, rounds, nodes) => {
-            let begun = mode_word(mode, out);
-            let named = put(b"UNDECIDED", out, begun);
-            let told = three(
-                reason_number(why) as u64,
-                i as u64,
-                rounds as u64,
-                out,
-                named,
-            );
-            figure(nodes as u64, out, told)
+        Ok(Done::Undecided(why, i, rounds, nodes)) => {
+            line.push_str(mode.name());
+            line.push_str(" UNDECIDED");
+            let reason = u64::from(u8::from(why));
+            push_figures(&[reason, i as u64, rounds as u64, nodes as u64], line);
         }
-        Answer::Wrote(length) => {
-            let named = put(b"wrote", out, 0);
-            figure(length as u64, out, named)
+        Ok(Done::Wrote(length)) => {
+            line.push_str("wrote");
+            push_figures(&[length as u64], line);
         }
-        Answer::Refused(k, file, at) => {
-            let named = put(b"refused", out, 0);
-            three(
-                number(k) as u64,
-                file_number(file) as u64,
-                at as u64,
-                out,
-                named,
-            )
+        Err(Refused { refusal, file, at }) => {
+            line.push_str("refused");
+            let what = u64::from(u8::from(refusal));
+            let place = u64::from(u8::from(file));
+            push_figures(&[what, place, at as u64], line);
         }
     }
 }
 
-// Puts the line at the start of the text, and answers its length.
+// Puts the line at the start of the text, and answers its length. docs/PROMISES.md names this call, so it stays beside the Display; and it
+// cannot fail, as a `Report` can where its writer does, so it is not made of one.
+#[tactic(auto, using(crate::proofs::Text::line_end, std::proofs::lemmas::Slice::overwrites))]
 pub fn put_line(mode: Mode, answer: Answer, text: &mut [u8; 128]) -> usize
     ensures prefix_len { IsPrefixLen result text.new }
     ensures lined { Lined (line_of mode (answer_of answer)) text.old result text.new }
 {
-    let out: &mut [u8] = text;
-    let end = put_answer(mode, answer, out);
-    put(b"\n", out, end)
+    let mut line = ArrayString::new();
+    push_answer(mode, answer, &mut line);
+    line.push_str("\n");
+    let bytes = line.as_str().as_bytes();
+    text[..bytes.len()].copy_from_slice(bytes);
+    bytes.len()
 }

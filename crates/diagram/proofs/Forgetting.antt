@@ -26,9 +26,6 @@ unfolding Silent
 silent_cached w n s i li op e = absurd (omega (arith, s i li, code_some op))
 
 -- its slots are emptied one after the other
-pub wiped_none : (w : List ℕ) → Wiped w w 0
-wiped_none w = record { empty = λ i li. absurd (omega arith); others = λ i k lk ne. refl; room = refl; rest = refl }
-
 pub wiped_more : (w u : List ℕ) (n : ℕ) → Wiped w u n → n < room_of u → Wiped w (store u n OPERATION 0) (n + 1)
 wiped_more w u n s lt = record {
   empty = λ i li. elim (ℕ_discrete i n) [
@@ -188,9 +185,6 @@ remain_fewer w n u m k r e =
 -- a table in order stays so when nothing in the cache counts any more
 pub renewed_good : (w u : List ℕ) (n : ℕ) → Good w n → Renewed w u → Good u n
 renewed_good w u n g r = cache_good w u r.room r.nodes n g r.stamped (silent_cached u n r.silent)
-
-pub forgets_none : (w : List ℕ) (a : Head) (mark : ℕ) → Ready w a → a.used ≡ mark → Forgets w a mark w a
-forgets_none w a mark k e = record { good = rw e at k.good; same = λ x lx. ap (λ (n : ℕ). tree_at w n x) (sym e); used = e; most = refl; room = refl; rest = refl }
 
 pub forgets_some : (w : List ℕ) (a : Head) (mark : ℕ) (v u : List ℕ) (b : Head) → Ready w a → Renewed w v → Remain v a.used u mark
     → b.used ≡ mark → b.most ≡ a.most → Forgets w a mark u b

@@ -5,14 +5,13 @@ use Prim.Native.Nat.{ℕ, ◌+◌, ◌<◌, ◌≤◌}
 use native.Mathlib.Omega.{arith}
 use native.Mathlib.Decide.{ℕ_discrete}
 use Rattle.meaning.specs.Numbers.{node_words}
-use Rattle.tree.specs.Tree.{Tree, combine_tree}
+use Rattle.tree.specs.Tree.{combine_tree}
 use Rattle.diagram.specs.declared.Head.{Head}
 use Rattle.diagram.specs.declared.Op.{Op}
-use Rattle.diagram.specs.declared.Sides.{Sides}
 use Rattle.diagram.specs.Operation.{op_of, stamps}
 use Rattle.diagram.specs.Words.{BUCKET, OPERATION, LEFT, RIGHT, RESULT, STAMP, at, room_of, rest_of, stamp_of}
-use Rattle.diagram.specs.Table.{key_of, tree_at, glued, combined, noted, Means, Stamped, Cached, Good}
-use Rattle.diagram.specs.Contract.{Has, FinishAsks}
+use Rattle.diagram.specs.Table.{key_of, tree_at, combined, noted, Means, Stamped, Cached, Good}
+use Rattle.diagram.specs.Contract.{Has, Ready}
 use Rattle.diagram.proofs.Stores.{at_same, at-node, at_word, room_store, room_small, rest_store}
 use Rattle.diagram.proofs.Trees.{tree_frame}
 use Rattle.diagram.proofs.Codes.{code_small, code_inj}
@@ -136,40 +135,36 @@ module _ (w : List ℕ) (slot : ℕ) (op : Op) (a b r : ℕ) where
 -- ## What the functions need
 
 -- a result stays the result once it is in the cache
-pub has_noted : (w : List ℕ) (a : Head) (op : Op) (x y : ℕ) (s : Sides) (l h : ℕ) (u : List ℕ) (b : Head) (r : ℕ) → FinishAsks w a op x y s l h
-    → Has w a (glued w a.used s.top l h) u b r → Has w a (glued w a.used s.top l h) (noted u s.slot op x y r) b r
-has_noted w a op x y s l h u b r f k =
-    let g = k.grown in
-    let more = g.keeps.more in
-    let v : List ℕ = noted u s.slot op x y r in
-    let in_table : s.slot < room_of u = omega (arith, f.slot, g.room) in
-    let true : tree_at u b.used r ≡ combined u b.used (op_of op) x y
-    = k.is ∙ f.true ∙ ap₂ (combine_tree (op_of op)) (sym (g.keeps.same x f.first)) (sym (g.keeps.same y f.second)) in
-    record {
-      grown = record {
-        good = noted_good u s.slot op x y r in_table b.used g.good (omega (arith, f.first)) (omega (arith, f.second)) (record { id = k.id; is = true });
-        keeps = record { more = more; same = λ i li. noted-tree u s.slot op x y r b.used i ∙ g.keeps.same i li };
-        room = noted-room u s.slot op x y r ∙ g.room;
-        rest = noted_rest u s.slot op x y r in_table ∙ g.rest;
-        new = λ i lo hi. rw (noted-tree u s.slot op x y r b.used i) (g.new i lo hi);
-      };
-      tally = k.tally;
-      id = k.id;
-      is = noted-tree u s.slot op x y r b.used r ∙ k.is;
-    }
+module _ (w : List ℕ) (a : Head) (op : Op) (x y slot : ℕ) (u : List ℕ) (b : Head) (r : ℕ) (ready : Ready w a) (lx : x < a.used + 2) (ly : y < a.used + 2)
+    (in_table : slot < room_of w) (k : Has w a (combined w a.used (op_of op) x y) u b r) where
+  in_grown : slot < room_of u
+  in_grown = omega (arith, in_table, k.grown.room)
 
-pub note_asks : (w : List ℕ) (a : Head) (op : Op) (x y : ℕ) (s : Sides) (l h : ℕ) (t : Tree) (u : List ℕ) (b : Head) (r : ℕ) → FinishAsks w a op x y s l h
-    → Has w a t u b r → (s.slot < room_of u) × (stamp_of u < stamps) × (x < 65536) × (y < 65536) × (r < 65536)
-note_asks w a op x y s l h t u b r f k =
-    let fits = f.asks.ready.good.fits in
-    let small = room_small w in
-    let in_table : s.slot < room_of u = omega (arith, f.slot, k.grown.room) in (
-      in_table,
-      k.grown.good.stamped.small (omega arith),
-      omega (arith, f.first),
-      omega (arith, f.second),
-      omega (arith, k.id, k.grown.good.fits, room_small u),
-    )
+  pub note_asks : (slot < room_of u) × (stamp_of u < stamps) × (x < 65536) × (y < 65536) × (r < 65536)
+  note_asks =
+      let fits = ready.good.fits in
+      let small = room_small w in
+      let in_u = in_grown in
+      (in_u, k.grown.good.stamped.small (omega arith), omega arith, omega arith, omega (arith, k.id, k.grown.good.fits, room_small u))
+
+  pub has_noted : Has w a (combined w a.used (op_of op) x y) (noted u slot op x y r) b r
+  has_noted =
+      let g = k.grown in
+      let more = g.keeps.more in
+      let true : tree_at u b.used r ≡ combined u b.used (op_of op) x y
+      = k.is ∙ ap₂ (combine_tree (op_of op)) (sym (g.keeps.same x lx)) (sym (g.keeps.same y ly)) in
+      record {
+        grown = record {
+          good = noted_good u slot op x y r in_grown b.used g.good (omega (arith, lx)) (omega (arith, ly)) (record { id = k.id; is = true });
+          keeps = record { more = more; same = λ i li. noted-tree u slot op x y r b.used i ∙ g.keeps.same i li };
+          room = noted-room u slot op x y r ∙ g.room;
+          rest = noted_rest u slot op x y r in_grown ∙ g.rest;
+          new = λ i lo hi. rw (noted-tree u slot op x y r b.used i) (g.new i lo hi);
+        };
+        tally = k.tally;
+        id = k.id;
+        is = noted-tree u slot op x y r b.used r ∙ k.is;
+      }
 
 -- what a slot of the cache is worth
 pub recalled : (w : List ℕ) (n slot : ℕ) (op : Op) (a b x : ℕ) → Good w n → slot < room_of w

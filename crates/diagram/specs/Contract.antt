@@ -1,20 +1,14 @@
 -- What the functions on the table ask and say. Assumes nothing.
-use Rattle.std.specs.Prelude.{◌≡◌, Bool, true, false, not, List, ◌⊎◌, ℕ, ◌+◌, ◌<◌, ◌≤◌, max, eqb}
+use Rattle.std.specs.Prelude.{◌≡◌, Bool, true, false, not, List, ◌⊎◌, ℕ, ◌+◌, ◌<◌, ◌≤◌, max, eqb, Option, Some, None, Result, Ok, Err}
 use Rattle.meaning.specs.Numbers.{node_words}
 use Rattle.tree.specs.Tree.{Tree, height, branch, Sub, Inner}
 use Rattle.diagram.specs.declared.Branches.{Branches}
+use Rattle.diagram.specs.declared.Full.{Full}
 use Rattle.diagram.specs.declared.Head.{Head}
-use Rattle.diagram.specs.declared.Hit.{Hit}
-use Rattle.diagram.specs.declared.Hit.TheVariants.{Is, Miss}
 use Rattle.diagram.specs.declared.Made.{Made}
-use Rattle.diagram.specs.declared.Made.TheVariants.{Node, Full}
-use Rattle.diagram.specs.declared.Op.{Op}
-use Rattle.diagram.specs.declared.Plan.{Plan}
-use Rattle.diagram.specs.declared.Plan.TheVariants.{Known, Split}
 use Rattle.diagram.specs.declared.Sides.{Sides}
-use Rattle.diagram.specs.Operation.{op_of}
 use Rattle.diagram.specs.Words.{BUCKET, OPERATION, at, room_of, rest_of}
-use Rattle.diagram.specs.Table.{tree_at, glued, combined, Means, Stamped, Silent, Good}
+use Rattle.diagram.specs.Table.{tree_at, Means, Stamped, Silent, Good}
 
 -- ## A tree is put in the table
 
@@ -52,9 +46,14 @@ pub record Lacks (w : List ℕ) (a : Head) (t : Tree) (u : List ℕ) (b : Head) 
   pub none : (i : ℕ) → i < b.used + 2 → tree_at u b.used i ≡ part → ⊥
 
 -- what is said of the words w with the head a, a tree, the words afterwards, and the answer
-unfoldable pub Says : List ℕ → Head → Tree → List ℕ → Made → Type 0
-Says w a t u (Node r b) = Has w a t u b r
-Says w a t u (Full b) = Lacks w a t u b
+unfoldable pub Says : List ℕ → Head → Tree → List ℕ → Result Made Full → Type 0
+Says w a t u (Ok m) = Has w a t u m.head m.id
+Says w a t u (Err f) = Lacks w a t u f.head
+
+-- the same of a table whose words are u and whose head is b afterwards
+unfoldable pub Gives : List ℕ → Head → Tree → List ℕ → Head → Result ℕ Full → Type 0
+Gives w a t u b (Ok x) = Has w a t u b x
+Gives w a t u b (Err full) = Lacks w a t u b × (full.head ≡ b)
 
 -- an inner tree that the table had, or that is a part of t: what a table with t has to hold
 unfoldable pub Wanted : List ℕ → ℕ → Tree → Tree → Type 0
@@ -109,9 +108,9 @@ abbrev pub Open : ℕ → ℕ → Type 0
 Open x y = x < 2 → y < 2 → ⊥
 
 -- what is known of an operation without a table: it holds in every table that is in order
-unfoldable pub Early : (Bool → Bool → Bool) → ℕ → ℕ → Hit → Type 0
-Early op x y (Is r) = (w : List ℕ) (n : ℕ) → Good w n → x < n + 2 → y < n + 2 → Means w n op x y r
-Early op x y Miss = Open x y
+unfoldable pub Early : (Bool → Bool → Bool) → ℕ → ℕ → Option ℕ → Type 0
+Early op x y (Some r) = (w : List ℕ) (n : ℕ) → Good w n → x < n + 2 → y < n + 2 → Means w n op x y r
+Early op x y None = Open x y
 
 -- u leaves the other operand, the other constant takes all, and equal operands are the answer
 pub record Absorbs (op : Bool → Bool → Bool) (u : Bool) : Type 0 where
@@ -127,35 +126,16 @@ pub record Cancels (op : Bool → Bool → Bool) (u : Bool) : Type 0 where
   pub right_unit : (b : Bool) → op b u ≡ b
   pub itself : (b : Bool) → op b b ≡ u
 
-unfoldable pub Absorbed : ℕ → ℕ → ℕ → Hit → Type 0
+unfoldable pub Absorbed : ℕ → ℕ → ℕ → Option ℕ → Type 0
 Absorbed unit x y r = (op : Bool → Bool → Bool) → Absorbs op (eqb unit 1) → Early op x y r
 
-unfoldable pub Cancelled : ℕ → ℕ → ℕ → Hit → Type 0
+unfoldable pub Cancelled : ℕ → ℕ → ℕ → Option ℕ → Type 0
 Cancelled unit x y r = (op : Bool → Bool → Bool) → Cancels op (eqb unit 1) → Early op x y r
 
 -- a result of the cache is a true one
-unfoldable pub Recalled : List ℕ → ℕ → (Bool → Bool → Bool) → ℕ → ℕ → Hit → Type 0
-Recalled w n op x y (Is r) = Means w n op x y r
-Recalled w n op x y Miss = Unit {0}
-
--- the branches to go on with: an operand is no constant, and the table has the slot
-pub record Goes (w : List ℕ) (n x y : ℕ) (s : Sides) : Type 0 where
-  pub splits : Splits w n x y s
-  pub some : 0 < s.top
-  pub slot : s.slot < room_of w
-
-unfoldable pub Planned : List ℕ → ℕ → (Bool → Bool → Bool) → ℕ → ℕ → Plan → Type 0
-Planned w n op x y (Known r) = Means w n op x y r
-Planned w n op x y (Split s) = Goes w n x y s
-
--- ## How it ends
-
-pub record FinishAsks (w : List ℕ) (a : Head) (op : Op) (x y : ℕ) (s : Sides) (l h : ℕ) : Type 0 where
-  pub asks : MakeAsks w a s.top l h
-  pub first : x < a.used + 2
-  pub second : y < a.used + 2
-  pub slot : s.slot < room_of w
-  pub true : glued w a.used s.top l h ≡ combined w a.used (op_of op) x y
+unfoldable pub Recalled : List ℕ → ℕ → (Bool → Bool → Bool) → ℕ → ℕ → Option ℕ → Type 0
+Recalled w n op x y (Some r) = Means w n op x y r
+Recalled w n op x y None = Unit {0}
 
 -- ## Nodes are taken back
 

@@ -1,5 +1,5 @@
 -- What the words of the table stand for, and when they are in order. Assumes nothing.
-use Rattle.std.specs.Prelude.{◌≡◌, Bool, true, false, List, ℕ, zero, suc, ◌+◌, ◌*◌, ◌<◌, ◌≤◌, eqb, if◌then◌else◌}
+use Rattle.std.specs.Prelude.{◌≡◌, Bool, List, ℕ, zero, suc, ◌+◌, ◌*◌, ◌<◌, ◌≤◌, eqb, if◌then◌else◌, Option, Some, None}
 use Rattle.tree.specs.Tree.{Tree, leaf, node, glue, Reduced, combine_tree}
 use Rattle.diagram.specs.declared.Op.{Op}
 use Rattle.diagram.specs.Operation.{op_of, code_of, codes, stamps}
@@ -74,15 +74,10 @@ pub record Good (w : List ℕ) (n : ℕ) : Type 0 where
   pub stamped : Stamped w
   pub cached : (i : ℕ) → i < room_of w → (op : Op) → at w i OPERATION ≡ key_of w op → Cached w n i op
 
--- whether node k has these three words
-pub record Matched (w : List ℕ) (k v l h : ℕ) (r : Bool) : Type 0 where
-  pub all : r ≡ true → (at w k HEIGHT ≡ v) × (at w k LOW ≡ l) × (at w k HIGH ≡ h)
-  pub some : r ≡ false → at w k HEIGHT ≡ v → at w k LOW ≡ l → at w k HIGH ≡ h → ⊥
-
--- r is the id of the node that has these three words, or a constant where there is none
-pub record Sought (w : List ℕ) (n v l h r : ℕ) : Type 0 where
-  pub found : 2 ≤ r → (r < n + 2) × (tree_at w n r ≡ node v (tree_at w n l) (tree_at w n h))
-  pub absent : r < 2 → (i : ℕ) → i < n → at w i HEIGHT ≡ v → at w i LOW ≡ l → at w i HIGH ≡ h → ⊥
+-- the id of the node that has these three words, or that there is none
+unfoldable pub Sought : List ℕ → ℕ → ℕ → ℕ → ℕ → Option ℕ → Type 0
+Sought w n v l h (Some r) = (r < n + 2) × (tree_at w n r ≡ node v (tree_at w n l) (tree_at w n h))
+Sought w n v l h None = (i : ℕ) → i < n → at w i HEIGHT ≡ v → at w i LOW ≡ l → at w i HIGH ≡ h → ⊥
 
 -- ## What the words are afterwards
 

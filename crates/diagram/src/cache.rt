@@ -6,8 +6,8 @@ ghost use Rattle.diagram.specs.Words.{room_of, stamp_of};
 ghost use Rattle.diagram.specs.Table.{noted, key_of, Stamped, Good};
 ghost use Rattle.diagram.specs.Contract.{Absorbed, Cancelled, Early, Recalled, Wiped, Renewed};
 
+use crate::Op;
 use crate::words::{LEFT, OPERATION, RESULT, RIGHT, STAMP, put, room, word};
-use crate::{Hit, Op};
 
 // A word of the cache has one of so many codes beside one of so many stamps.
 const CODES: usize = 8;
@@ -15,47 +15,36 @@ const CODES: usize = 8;
 const STAMPS: usize = 8192;
 
 // AND and OR: the unit leaves the other operand, and the other constant takes all.
-fn absorbing(unit: usize, a: usize, b: usize) -> Hit
+fn absorbing(unit: usize, a: usize, b: usize) -> Option<usize>
     requires { unit < 2 }
     ensures { Absorbed unit a b result }
 {
     if a == unit {
-        return Hit::Is(b);
+        Some(b)
+    } else if b == unit || a == b || a < 2 {
+        Some(a)
+    } else {
+        (b < 2).then_some(b)
     }
-    if b == unit {
-        return Hit::Is(a);
-    }
-    if a == b {
-        return Hit::Is(a);
-    }
-    if a < 2 {
-        return Hit::Is(a);
-    }
-    if b < 2 {
-        return Hit::Is(b);
-    }
-    Hit::Miss
 }
 
 // XOR and EQUAL: the unit leaves the other operand, and equal operands give the unit.
-fn cancelling(unit: usize, a: usize, b: usize) -> Hit
+fn cancelling(unit: usize, a: usize, b: usize) -> Option<usize>
     requires { unit < 2 }
     ensures { Cancelled unit a b result }
 {
     if a == unit {
-        return Hit::Is(b);
+        Some(b)
+    } else if b == unit {
+        Some(a)
+    } else {
+        (a == b).then_some(unit)
     }
-    if b == unit {
-        return Hit::Is(a);
-    }
-    if a == b {
-        return Hit::Is(unit);
-    }
-    Hit::Miss
 }
 
 // Answers that need no table; a miss has an operand that is no constant.
-pub fn early(op: Op, a: usize, b: usize) -> Hit
+#[tactic(auto, using(crate::proofs::Early::operations), unfolding(crate::specs::Contract::Absorbed, crate::specs::Contract::Cancelled))]
+pub fn early(op: Op, a: usize, b: usize) -> Option<usize>
     ensures { Early (op_of op) a b result }
 {
     match op {
@@ -66,43 +55,32 @@ pub fn early(op: Op, a: usize, b: usize) -> Hit
     }
 }
 
-// The code of an operation: 0 is an empty slot, and codes from 5 to 7 are free for operations of other shapes.
-pub fn code(op: Op) -> usize
-    ensures { (result ≡ code_of op) × (result < 5) }
-{
-    match op {
-        Op::And => 1,
-        Op::Or => 2,
-        Op::Xor => 3,
-        Op::Equal => 4,
-    }
-}
-
 // How the cache writes an operation: its code under the table's stamp.
+#[tactic(auto, using(crate::proofs::Codes::code_small))]
 fn key(t: &[u16], op: Op) -> usize
     requires { 0 < room_of t.now }
     ensures { (result ≡ key_of t.now op) × (result < codes * stamp_of t.now + codes) }
 {
-    CODES * word(t, 0, STAMP) + code(op)
+    CODES * word(t, 0, STAMP) + usize::from(op)
 }
 
 // What the cache's slot has of an operation on two ids.
-pub fn recall(t: &[u16], used: usize, slot: usize, op: Op, a: usize, b: usize) -> Hit
+#[tactic(auto, unfolding(crate::specs::Contract::Recalled))]
+pub fn recall(t: &[u16], used: usize, slot: usize, op: Op, a: usize, b: usize) -> Option<usize>
     requires { (Good t.now used) × (slot < room_of t.now) }
     ensures { Recalled t.now used (op_of op) a b result }
 {
-    if word(t, slot, OPERATION) != key(t, op) {
-        return Hit::Miss;
+    if word(t, slot, OPERATION) == key(t, op)
+        && word(t, slot, LEFT) == a
+        && word(t, slot, RIGHT) == b
+    {
+        Some(word(t, slot, RESULT))
+    } else {
+        None
     }
-    if word(t, slot, LEFT) != a {
-        return Hit::Miss;
-    }
-    if word(t, slot, RIGHT) != b {
-        return Hit::Miss;
-    }
-    Hit::Is(word(t, slot, RESULT))
 }
 
+#[tactic(auto, unfolding(crate::specs::Table::noted))]
 pub fn note(t: &mut [u16], slot: usize, op: Op, a: usize, b: usize, r: usize)
     requires { (slot < room_of t.old) × (stamp_of t.old < stamps) × (a < 65536) × (b < 65536) × (r < 65536) }
     ensures { t.new ≡ noted t.old slot op a b r }
@@ -117,11 +95,8 @@ pub fn note(t: &mut [u16], slot: usize, op: Op, a: usize, b: usize, r: usize)
 fn wipe(t: &mut [u16])
     ensures { Wiped t.old t.new (room_of t.old) }
 {
-    let n = room(t);
-    let mut i = 0;
-    while i < n {
+    for i in 0..room(t) {
         put(t, i, OPERATION, 0);
-        i += 1;
     }
 }
 
@@ -133,8 +108,8 @@ pub fn renew(t: &mut [u16])
     let next = word(t, 0, STAMP) + 1;
     if next < STAMPS {
         put(t, 0, STAMP, next);
-        return;
+    } else {
+        wipe(t);
+        put(t, 0, STAMP, 0);
     }
-    wipe(t);
-    put(t, 0, STAMP, 0);
 }

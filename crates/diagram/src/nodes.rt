@@ -1,102 +1,101 @@
-// The unique table: each node is made once, and found again by its three words through the chain of its bucket.
+// The unique table: each node is made once, and found again by its own three words through the chain of its bucket.
 ghost use Rattle.std.specs.Prelude.{◌≡◌, ◌+◌, ◌<◌};
 ghost use Rattle.meaning.specs.Numbers.{max_nodes};
-ghost use Rattle.diagram.specs.Words.{room_of};
-ghost use Rattle.diagram.specs.Table.{bucket_of, glued, added, unlinked, Good, Sought, Matched};
+ghost use Rattle.diagram.specs.Words.{HEIGHT, LOW, HIGH, at, room_of};
+ghost use Rattle.diagram.specs.Table.{bucket_of, glued, added, unlinked, Good, Sought};
 ghost use Rattle.diagram.specs.Contract.{MakeAsks, Says};
 
 use crate::words::{BUCKET, HEIGHT, HIGH, LOW, NEXT, hashed, put, room, word};
-use crate::{Head, Made};
+use crate::{Full, Head, Made};
 
-// Whether node k has these three words.
-fn matches(t: &[u16], k: usize, v: usize, l: usize, h: usize) -> bool
-    requires { k < room_of t.now }
-    ensures { Matched t.now k v l h result }
-{
-    if word(t, k, HEIGHT) != v {
-        return false;
-    }
-    if word(t, k, LOW) != l {
-        return false;
-    }
-    if word(t, k, HIGH) != h {
-        return false;
-    }
-    true
+// What a node is found by: the height at which it tests, and the ids of its branches.
+#[derive(Clone, Copy, PartialEq, Eq)]
+pub struct Node {
+    pub height: usize,
+    pub low: usize,
+    pub high: usize,
 }
 
-// The id of the node with these three words, which is in bucket b if anywhere, or 0. A chain runs to smaller ids.
-fn find(t: &[u16], used: usize, b: usize, v: usize, l: usize, h: usize) -> usize
-    requires { (Good t.now used) × (b ≡ bucket_of t.now v l h) × (b < room_of t.now) }
-    ensures { Sought t.now used v l h result }
+impl Node {
+    // Node i of the table.
+    fn read(t: &[u16], i: usize) -> Self
+        requires { i < room_of t.now }
+        ensures words { (result.height ≡ at t.now i HEIGHT) × (result.low ≡ at t.now i LOW) × (result.high ≡ at t.now i HIGH) }
+        ensures small { (result.height < 65536) × (result.low < 65536) × (result.high < 65536) }
+    {
+        Node {
+            height: word(t, i, HEIGHT),
+            low: word(t, i, LOW),
+            high: word(t, i, HIGH),
+        }
+    }
+}
+
+// The id of the node x, which is in bucket b if anywhere. A chain runs to smaller ids.
+fn find(t: &[u16], used: usize, b: usize, x: Node) -> Option<usize>
+    requires { (Good t.now used) × (b ≡ bucket_of t.now x.height x.low x.high) × (b < room_of t.now) }
+    ensures { Sought t.now used x.height x.low x.high result }
 {
     let mut p = word(t, b, BUCKET);
+    // A while: the chain says which id is next, so no range counts it.
     while 2 <= p {
         let k = p - 2;
-        if matches(t, k, v, l, h) {
-            return p;
+        if Node::read(t, k) == x {
+            return Some(p);
         }
         p = word(t, k, NEXT);
     }
-    0
+    None
 }
 
 // Writes node i, first in the chain of bucket b.
-fn add(t: &mut [u16], i: usize, b: usize, v: usize, l: usize, h: usize)
-    requires { (i < room_of t.old) × (i < max_nodes) × (b ≡ bucket_of t.old v l h) × (b < room_of t.old) × (v < 65536) × (l < 65536) × (h < 65536) }
-    ensures { t.new ≡ added t.old i v l h }
+#[tactic(auto, unfolding(crate::specs::Table::added))]
+fn add(t: &mut [u16], i: usize, b: usize, x: Node)
+    requires { (i < room_of t.old) × (i < max_nodes) × (b ≡ bucket_of t.old x.height x.low x.high) × (b < room_of t.old) × (x.height < 65536) × (x.low < 65536) × (x.high < 65536) }
+    ensures { t.new ≡ added t.old i x.height x.low x.high }
 {
     let first = word(t, b, BUCKET);
-    put(t, i, HEIGHT, v);
-    put(t, i, LOW, l);
-    put(t, i, HIGH, h);
+    put(t, i, HEIGHT, x.height);
+    put(t, i, LOW, x.low);
+    put(t, i, HIGH, x.high);
     put(t, i, NEXT, first);
     put(t, b, BUCKET, i + 2);
 }
 
 // Takes node i out of the chain of its bucket, whose first it is.
+#[tactic(auto, unfolding(crate::specs::Table::unlinked, crate::specs::Table::bucket_of))]
 pub fn unlink(t: &mut [u16], i: usize)
     requires { i < room_of t.old }
     ensures { t.new ≡ unlinked t.old i }
 {
-    let b = hashed(
-        word(t, i, HEIGHT),
-        word(t, i, LOW),
-        word(t, i, HIGH),
-        room(t),
-    );
+    let x = Node::read(t, i);
+    let b = hashed(x.height, x.low, x.high, room(t));
     put(t, b, BUCKET, word(t, i, NEXT));
 }
 
-// The tree that tests at height v over the trees of l and h, in a table with room for n nodes.
-pub fn make_in(t: &mut [u16], n: usize, head: Head, v: usize, l: usize, h: usize) -> Made
-    requires { (MakeAsks t.old head v l h) × (n ≡ room_of t.old) }
-    ensures { Says t.old head (glued t.old head.used v l h) t.new result }
+// The tree of x, in a table with room for n nodes.
+#[tactic(auto, using(crate::proofs::Stores::room_small), unfolding(crate::specs::Contract::Says, crate::specs::Table::Sought, crate::specs::Table::bucket_of))]
+pub fn make_in(t: &mut [u16], n: usize, head: Head, x: Node) -> Result<Made, Full>
+    requires { (MakeAsks t.old head x.height x.low x.high) × (n ≡ room_of t.old) }
+    ensures { Says t.old head (glued t.old head.used x.height x.low x.high) t.new result }
 {
-    if l == h {
-        return Made::Node(l, head);
+    if x.low == x.high {
+        return Ok(Made { id: x.low, head });
     }
     if n == 0 {
-        return Made::Full(head);
+        return Err(Full { head });
     }
     let used = head.used;
-    let b = hashed(v, l, h, n);
-    let p = find(t, used, b, v, l, h);
-    if 2 <= p {
-        return Made::Node(p, head);
+    let b = hashed(x.height, x.low, x.high, n);
+    if let Some(id) = find(t, used, b, x) {
+        return Ok(Made { id, head });
     }
-    let more = head.counted();
-    if n < more.used {
-        return Made::Full(head);
+    if n <= used {
+        return Err(Full { head });
     }
-    add(t, used, b, v, l, h);
-    Made::Node(used + 2, more)
-}
-
-// The tree that tests at height v over the trees of l and h.
-pub fn make(t: &mut [u16], head: Head, v: usize, l: usize, h: usize) -> Made
-    requires { MakeAsks t.old head v l h }
-    ensures { Says t.old head (glued t.old head.used v l h) t.new result }
-{
-    make_in(t, room(t), head, v, l, h)
+    add(t, used, b, x);
+    Ok(Made {
+        id: used + 2,
+        head: head.counted(),
+    })
 }

@@ -1,5 +1,5 @@
 -- The loop over the signals of a grouping, with the running product of their equalities. Assumes nothing.
-use mathlib.Core.Path.{◌≡◌, refl, subst, ◌∙◌}
+use mathlib.Core.Path.{◌≡◌, subst}
 use mathlib.Core.List.{List, []}
 use mathlib.Core.Logic.{⊎_elim}
 use Prim.Native.Nat.{ℕ, ◌+◌, ◌<◌, ◌≤◌}
@@ -7,22 +7,21 @@ use native.Mathlib.Omega.{arith}
 use native.Mathlib.Numerals.{add-one}
 use lib.ListN.{length}
 use Rattle.tree.specs.Tree.{Tree, height}
+use Rattle.std.specs.Prelude.{Ok, Err}
+use Rattle.diagram.specs.declared.Full.{Full}
 use Rattle.diagram.specs.declared.Head.{Head}
-use Rattle.diagram.specs.declared.Made.{Made}
-use Rattle.diagram.specs.declared.Made.TheVariants.{Node, Full}
 use Rattle.diagram.specs.Table.{tree_at}
 use Rattle.diagram.specs.Contract.{Keeps}
 use Rattle.diagram.proofs.Trees.{tree-constant}
 use Rattle.fill.specs.Work.{Misses, Ended, Ends}
 use Rattle.fill.specs.Trees.{trees_at, member_trees, member_tree, product_tree, equal_trees}
-use Rattle.fill.specs.Contract.{EqualsAsks, EqualsSays, MemberAsks, MemberSays}
+use Rattle.fill.specs.Contract.{EqualsAsks, EqualsSays, MemberSays}
 use Rattle.fill.proofs.Parts.{part_none, part_split}
-use Rattle.fill.proofs.Gains.{gains_none, gains_ready, gains_after, misses_after, misses_wider, is_kept, known_kept, ended_under}
+use Rattle.fill.proofs.Gains.{gains_none, gains_after, misses_after, misses_wider, is_kept}
 use Rattle.fill.proofs.Products.{member_same, equals_upto}
 
 -- after v signals: q is the id of the product of their equalities
 pub record Equalled (w : List ℕ) (a : Head) (g ids : List ℕ) (left : ℕ) (u : List ℕ) (b : Head) (q v : ℕ) : Type 0 where
-  pub size : length u ≡ length w
   pub within : v ≤ length ids
   pub ended : Ended w a (equal_trees g (trees_at w a.used ids) v) (product_tree g (trees_at w a.used ids) v) left u b q
 
@@ -33,7 +32,6 @@ module _ {w : List ℕ} {a : Head} {g ids : List ℕ} {left : ℕ} (asks : Equal
   pub equalled_none : Equalled w a g ids left w a 1 0
   unfolding equal_trees product_tree height
   equalled_none = record {
-    size = refl;
     within = omega arith;
     ended = record {
       gains = gains_none w a [] asks.ready;
@@ -44,7 +42,7 @@ module _ {w : List ℕ} {a : Head} {g ids : List ℕ} {left : ℕ} (asks : Equal
   }
 
   module _ {u : List ℕ} {b : Head} {q v : ℕ} (so : Equalled w a g ids left u b q v) where
-    pub equalled_end : length ids ≤ v → EqualsSays w a g ids left u (Node q b)
+    pub equalled_end : length ids ≤ v → EqualsSays w a g ids left u b (Ok q)
     unfolding Ends
     equalled_end l =
         let e : v ≡ length ids = omega (arith, so.within) in
@@ -54,13 +52,6 @@ module _ {w : List ℕ} {a : Head} {g ids : List ℕ} {left : ℕ} (asks : Equal
     module _ (l : v < length ids) where
       keeps : Keeps w a.used u b.used
       keeps = so.ended.gains.keeps
-
-      pub equalled_asks : MemberAsks u b g ids q v left
-      equalled_asks = record {
-        equals = record { ready = gains_ready so.ended.gains; known = known_kept keeps asks.known; groups = asks.groups };
-        product = ended_under so.ended;
-        member = l;
-      }
 
       -- what it adds, of the trees that the ids stand for from the start
       abbrev trees : List Tree
@@ -74,16 +65,12 @@ module _ {w : List ℕ} {a : Head} {g ids : List ℕ} {left : ℕ} (asks : Equal
       unfolding trees_at
       same_now = member_same g _ H _ _ v (omega (arith, asks.groups)) (λ k lk. keeps.same _ (asks.known.each k (omega arith)).id) so.ended.is.is
 
-      module _ (u' : List ℕ) (made : Made) (says : MemberSays u b g ids q v left u' made) where
-        ends_as : (z : Made) → made ≡ z → Ends u b trees tree left u' z
-        ends_as z e = rw (same_now.0, same_now.1, e) at says
-
-        pub equalled_next : {x : ℕ} {c : Head} → made ≡ Node x c → length u' ≡ length u → Equalled w a g ids left u' c x (v + 1)
+      module _ (u' : List ℕ) (c : Head) where
+        pub equalled_next : {x : ℕ} → MemberSays u b g ids q v left u' c (Ok x) → Equalled w a g ids left u' c x (v + 1)
         unfolding Ends equal_trees product_tree
-        equalled_next {x} {c} e el =
-            let n : Ended u b trees tree left u' c x = ends_as (Node x c) e in
+        equalled_next {x} says =
+            let n : Ended u b trees tree left u' c x = rw (same_now.0, same_now.1) at says in
             record {
-              size = el ∙ so.size;
               within = omega arith;
               ended = rw (add-one v) (record {
                 gains = gains_after so.ended.gains n.gains;
@@ -96,9 +83,9 @@ module _ {w : List ℕ} {a : Head} {g ids : List ℕ} {left : ℕ} (asks : Equal
               });
             }
 
-        pub equalled_full : {c : Head} → made ≡ Full c → EqualsSays w a g ids left u' made
+        pub equalled_full : (full : Full) → MemberSays u b g ids q v left u' c (Err full) → EqualsSays w a g ids left u' c (Err full)
         unfolding Ends equal_trees
-        equalled_full {c} e =
-            let n : Misses u b trees u' c = ends_as (Full c) e in
+        equalled_full full says =
+            let n : Misses u b trees u' c = rw same_now.0 at says.0 in
             let k : Misses w a (equal_trees g H (v + 1)) u' c = rw (add-one v) (misses_after so.ended.gains n) in
-            rw e (misses_wider _ (λ s p. equals_upto g H (v + 1) (length ids) (omega arith) p) k)
+            (misses_wider _ (λ s p. equals_upto g H (v + 1) (length ids) (omega arith) p) k, says.1)

@@ -6,16 +6,15 @@ use mathlib.Core.Logic.{⊎_elim}
 use Prim.Native.Nat.{ℕ, ◌+◌, ◌-◌, ◌<◌}
 use native.Mathlib.Omega.{arith}
 use lib.ListN.{length, set, length-set, length-append, get_or-append}
-use lib.Seq.{get_or-set_same, get_or-set_other, get_or-append-add}
+use lib.Seq.{get_or_at, get_or-set_same, get_or-set_other, get_or-append-add}
 use Rattle.tree.specs.Tree.{Tree, leaf}
 use Rattle.tree.proofs.Cases.{lt-or-le}
+use Rattle.std.specs.Prelude.{Result, Ok, Err}
+use Rattle.diagram.specs.declared.Full.{Full}
 use Rattle.diagram.specs.declared.Head.{Head}
 use Rattle.diagram.specs.Contract.{Has, Ready}
-use Rattle.fill.specs.declared.Worked.{Worked}
-use Rattle.fill.specs.declared.Worked.TheVariants.{Done, Over}
 use Rattle.fill.specs.Work.{Filled, Fills}
 use Rattle.fill.proofs.Gains.{gains_none, gains_one, gains_after, misses_after, is_kept}
-use Rattle.fill.proofs.MapTrees.{length_more, last_at}
 
 pub filled_none : (w : List ℕ) (a : Head) (old : List ℕ) (off : ℕ) → Ready w a → Filled w a [] old off w a old
 filled_none w a old off k = record {
@@ -35,14 +34,14 @@ filled_more {ts} {off} {ids} {t} {x} {at} e l f h = record {
         let ne : off + i ≡ at → ⊥ = omega arith in
         rw (get_or-append ts (t ∷ []) (leaf false) i old, get_or-set_other ids at (off + i) x 0 ne) (is_kept h.grown.keeps (f.stand.each i old)))
         (λ new.
-        let z : i ≡ length ts = omega (arith, length_more ts t) in
-        rw (z, last_at ts t (leaf false), ← e, get_or-set_same ids at x 0 l) (record { id = h.id; is = h.is }))
+        let z : i ≡ length ts = omega (arith, length-append ts (t ∷ [])) in
+        rw (z, get_or_at ts t [] (leaf false) (length ts) refl, ← e, get_or-set_same ids at x 0 l) (record { id = h.id; is = h.is }))
         (lt-or-le i (length ts));
   };
   frame = record {
     size = length-set ids at x ∙ f.frame.size;
     below = λ i li. get_or-set_other ids at i x 0 (omega arith) ∙ f.frame.below i li;
-    above = λ i li. get_or-set_other ids at i x 0 (omega (arith, length_more ts t)) ∙ f.frame.above i (omega (arith, length_more ts t));
+    above = λ i li. get_or-set_other ids at i x 0 (omega (arith, length-append ts (t ∷ []))) ∙ f.frame.above i (omega (arith, length-append ts (t ∷ [])));
   };
 }
 
@@ -70,7 +69,7 @@ module _ {w : List ℕ} {a : Head} {ts : List Tree} {old : List ℕ} {off : ℕ}
     };
   }
 
-  pub fills_after : (us : List Tree) (u' ids : List ℕ) (z : Worked) → Fills u b us mid at u' ids z → Fills w a (ts ++ us) old off u' ids z
+  pub fills_after : (us : List Tree) (u' : List ℕ) (c : Head) (ids : List ℕ) (r : Result (Unit {0}) Full) → Fills u b us mid at u' c ids r → Fills w a (ts ++ us) old off u' c ids r
   unfolding Fills
-  fills_after us u' ids (Done c) s = filled_after s
-  fills_after us u' ids (Over c) s = misses_after f.gains s
+  fills_after us u' c ids (Ok done) s = filled_after s
+  fills_after us u' c ids (Err full) s = (misses_after f.gains s.0, s.1)

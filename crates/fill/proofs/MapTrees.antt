@@ -7,19 +7,13 @@ use Prim.Native.Nat.{ℕ, zero, suc, ◌+◌, ◌-◌, ◌<◌, ◌≤◌}
 use native.Mathlib.Omega.{arith}
 use native.Mathlib.Numerals.{add-one}
 use lib.ListN.{length, get_or, length-append, get_or-append}
+use lib.Seq.{get_or_at}
 use Rattle.tree.specs.Tree.{Tree, leaf, Sub, height}
 use Rattle.tree.proofs.Cases.{lt-or-le}
 use Rattle.fill.specs.Work.{PartOf, Is, Stand}
 use Rattle.fill.specs.Trees.{map_trees}
 use Rattle.fill.specs.Contract.{Known}
 use Rattle.fill.proofs.Parts.{part_none, part_one, part_left, part_split}
-
-pub length_more : (ts : List Tree) (t : Tree) → length (ts ++ (t ∷ [])) ≡ length ts + 1
-length_more ts t = length-append ts (t ∷ [])
-
-pub last_at : (ts : List Tree) (t d : Tree) → get_or (ts ++ (t ∷ [])) (length ts) d ≡ t
-last_at [] t d = refl
-last_at (x ∷ ts) t d = last_at ts t d
 
 module _ (t : ℕ → Tree) where
   pub map_more : (k : ℕ) → map_trees t (k + 1) ≡ map_trees t k ++ (t k ∷ [])
@@ -29,7 +23,7 @@ module _ (t : ℕ → Tree) where
   pub length-map : (k : ℕ) → length (map_trees t k) ≡ k
   unfolding map_trees
   length-map zero = refl
-  length-map (suc k) = omega (arith, length_more (map_trees t k) (t k), length-map k)
+  length-map (suc k) = omega (arith, length-append (map_trees t k) (t k ∷ []), length-map k)
 
   pub map-append : (k j : ℕ) → map_trees t (k + j) ≡ map_trees t k ++ map_trees (λ i. t (k + i)) j
   unfolding map_trees
@@ -44,7 +38,7 @@ module _ (t : ℕ → Tree) where
       (λ ge.
       let e : v ≡ length (map_trees t k) = omega (arith, length-map k) in
       let z : v ≡ k = omega arith in
-      rw e (last_at (map_trees t k) (t k) d) ∙ ap t (sym z))
+      get_or_at (map_trees t k) (t k) [] d v (sym e) ∙ ap t (sym z))
       (lt-or-le v k)
 
   -- ## Parts

@@ -12,11 +12,11 @@ use Rattle.tree.specs.Function.{tree_for, Columns, Part}
 use Rattle.diagram.specs.declared.Head.{Head}
 use Rattle.diagram.specs.Words.{room_of}
 use Rattle.diagram.specs.Contract.{Lacks}
-use Rattle.diagram.specs.Functions.{Holds, AllHeld, Inside}
+use Rattle.diagram.specs.Functions.{AllHeld, Inside}
 use Rattle.diagram.proofs.Trees.{node_inner}
 use Rattle.diagram.proofs.Grown.{grown_none, tally_none}
 use Rattle.diagram.proofs.Functions.{inside_all, inside_full, inside_fits}
-use Rattle.fill.specs.Work.{Gains, Misses, Is, Named}
+use Rattle.fill.specs.Work.{Gains, Misses, Named}
 use Rattle.fill.specs.Trees.{map_trees}
 use Rattle.fill.proofs.Parts.{part_none, part_split}
 use Rattle.fill.proofs.Gains.{gains_ready}
@@ -34,9 +34,6 @@ module _ {m : ℕ} {P : (List Bool → Bool) → Type 0} where
   pub named-map : (t : ℕ → Tree) (f : ℕ → List Bool → Bool) (k : ℕ) → ((v : ℕ) → v < k → P (f v)) → ((v : ℕ) → v < k → t v ≡ tree_for m (f v))
       → Named m P (map_trees t k)
   named-map t f k is e = record { each = λ s q. let r = part_map t k q in (f r.0, is r.0 r.1, subst (Sub s) (e r.0 r.1) r.2) }
-
-pub is_holds : {u : List ℕ} {n x : ℕ} {t : Tree} (m : ℕ) (f : List Bool → Bool) → t ≡ tree_for m f → Is u n x t → Holds u n m f x
-is_holds m f e i = record { id = i.id; is = i.is ∙ e }
 
 -- ## The count
 

@@ -1,15 +1,12 @@
 -- What a table has gained once a list of trees is worked in it, or why it could not be. Assumes nothing.
-use Rattle.std.specs.Prelude.{◌≡◌, Bool, false, List, ◌∷◌, ℕ, ◌+◌, ◌<◌, ◌≤◌, length, get_or}
+use Rattle.std.specs.Prelude.{◌≡◌, Bool, false, List, ◌∷◌, ℕ, ◌+◌, ◌<◌, ◌≤◌, length, get_or, Result, Ok, Err}
 use Rattle.tree.specs.Tree.{Tree, leaf, Sub, height}
 use Rattle.tree.specs.Function.{tree_for}
+use Rattle.diagram.specs.declared.Full.{Full}
 use Rattle.diagram.specs.declared.Head.{Head}
-use Rattle.diagram.specs.declared.Made.{Made}
-use Rattle.diagram.specs.declared.Made.TheVariants.{Node, Full}
 use Rattle.diagram.specs.Words.{room_of, rest_of}
 use Rattle.diagram.specs.Table.{tree_at, Good}
 use Rattle.diagram.specs.Contract.{Keeps, Tally}
-use Rattle.fill.specs.declared.Worked.{Worked}
-use Rattle.fill.specs.declared.Worked.TheVariants.{Done, Over}
 
 -- ## The table
 
@@ -61,9 +58,9 @@ pub record Filled (w : List ℕ) (a : Head) (ts : List Tree) (old : List ℕ) (o
   pub frame : Frame old ids off (length ts)
 
 -- the ids of a list of trees stand in the array from off on; or there is no room for the list
-unfoldable pub Fills : List ℕ → Head → List Tree → List ℕ → ℕ → List ℕ → List ℕ → Worked → Type 0
-Fills w a ts old off u ids (Done b) = Filled w a ts old off u b ids
-Fills w a ts old off u ids (Over b) = Misses w a ts u b
+unfoldable pub Fills : List ℕ → Head → List Tree → List ℕ → ℕ → List ℕ → Head → List ℕ → Result (Unit {0}) Full → Type 0
+Fills w a ts old off u b ids (Ok done) = Filled w a ts old off u b ids
+Fills w a ts old off u b ids (Err full) = Misses w a ts u b × (full.head ≡ b)
 
 -- every part of a list of trees has an id, and x is the id of t, of which at most so many variable levels remain
 pub record Ended (w : List ℕ) (a : Head) (ts : List Tree) (t : Tree) (left : ℕ) (u : List ℕ) (b : Head) (x : ℕ) : Type 0 where
@@ -72,14 +69,9 @@ pub record Ended (w : List ℕ) (a : Head) (ts : List Tree) (t : Tree) (left : �
   pub is : Is u b.used x t
   pub levels : height t ≤ left
 
-unfoldable pub Ends : List ℕ → Head → List Tree → Tree → ℕ → List ℕ → Made → Type 0
-Ends w a ts t left u (Node x b) = Ended w a ts t left u b x
-Ends w a ts t left u (Full b) = Misses w a ts u b
-
--- a tree was made, or the table is full
-unfoldable pub worked_of_made : Made → Worked
-worked_of_made (Node x b) = Done b
-worked_of_made (Full b) = Over b
+unfoldable pub Ends : List ℕ → Head → List Tree → Tree → ℕ → List ℕ → Head → Result ℕ Full → Type 0
+Ends w a ts t left u b (Ok x) = Ended w a ts t left u b x
+Ends w a ts t left u b (Err full) = Misses w a ts u b × (full.head ≡ b)
 
 -- ## A list of trees in a list of functions
 

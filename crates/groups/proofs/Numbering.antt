@@ -82,13 +82,6 @@ module _ (same : ℕ → ℕ → Bool) where
       let none : n - v ≡ 0 = omega arith in
       sym (append-nil out) ∙ rw (none, take_all v out (omega (arith, so.size))) at so.rest
 
-  -- an old number, or the next, is at most v
-  pub numbered_upto : (n : ℕ) (out : List ℕ) (count v : ℕ) → Numbered n out count v
-      → (u c : ℕ) → (u < v → c ≡ get_or out u 0) → (v ≤ u → c ≡ count) → c ≤ v
-  numbered_upto n out count v so u c old new = case_bool (ltb u v)
-      (λ t. let l = ltb-true u v t in omega (arith, old l, so.used u l, so.small))
-      (λ t. omega (arith, new (ltb-false u v t), so.small))
-
   -- v is numbered, as the first member of its class is, or, where that is v itself, by the next number
   module _ (equivalence : Equivalence same) (n : ℕ) (out : List ℕ) (count v : ℕ) (so : Numbered n out count v) (inside : v < n) where
     -- the class numbers of the signals below v, and of v

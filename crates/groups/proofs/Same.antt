@@ -1,16 +1,14 @@
--- Two signals of one class and one id, and two groupings that are the same. Assumes nothing.
+-- Two signals of one class and one id. Assumes nothing.
 use mathlib.Core.Path.{◌≡◌, refl, sym, ◌∙◌}
-use mathlib.Core.Bool.{true, false}
+use mathlib.Core.Bool.{true}
 use mathlib.Core.List.{List}
 use mathlib.Core.Logic.{◌↔◌}
-use Prim.Native.Nat.{ℕ, ◌<◌}
-use lib.ListN.{length, get_or}
-use lib.Seq.{ext_get_or}
+use Prim.Native.Nat.{ℕ}
+use lib.ListN.{get_or}
 use lib.Dec.{eqb}
-use borrow.Author.Tests.{eqb-true, eq-eqb, ne_eqb}
-use Rattle.meaning.specs.Basic.{same_list}
+use borrow.Author.Tests.{eqb-true, eq-eqb}
 use Rattle.meaning.specs.Joint.{class}
-use Rattle.laws.proofs.Basic.{case_bool, and_left, and_right, and_both, same_list-eq, same_list_refl}
+use Rattle.laws.proofs.Basic.{and_left, and_right, and_both}
 use Rattle.promises.proofs.Groups.{Equivalence}
 use Rattle.groups.specs.ByIds.{same_by}
 
@@ -33,21 +31,3 @@ module _ (g ids : List ℕ) where
         let s = (same_iff v w).0 d in
         (same_iff u w).1 (r.0 ∙ s.0, r.1 ∙ s.1);
   }
-
-  -- by the tests on the classes and on the ids
-  pub same_not : (u v : ℕ) → (get_or g u 0 ≡ get_or g v 0 → ⊥) → false ≡ same_by g ids u v
-  unfolding same_by class
-  same_not u v e = rw (ne_eqb _ _ e)
-
-  pub same_ids : (u v : ℕ) → get_or g u 0 ≡ get_or g v 0 → eqb (get_or ids u 0) (get_or ids v 0) ≡ same_by g ids u v
-  unfolding same_by class
-  same_ids u v e = rw (eq-eqb _ _ e)
-
--- ## Two groupings, signal by signal
-
-module _ (g h : List ℕ) where
-  pub same_list_lem : length h ≡ length g → ((k : ℕ) → k < length g → get_or g k 0 ≡ get_or h k 0) → true ≡ same_list g h
-  same_list_lem long all = rw (← ext_get_or 0 g h (sym long) all) (sym (same_list_refl g))
-
-  pub other_list : (v : ℕ) → (get_or g v 0 ≡ get_or h v 0 → ⊥) → false ≡ same_list g h
-  other_list v e = case_bool (same_list g h) (λ t. absurd (e (rw (same_list-eq g h t)))) sym

@@ -2,8 +2,7 @@
 // that of the first of its class, and the classes split by id.
 #![tactic(auto)]
 
-ghost use Rattle.std.specs.Prelude.{◌≡◌, ◌+◌, ◌<◌, ◌≤◌, max, length, get_or};
-ghost use Rattle.meaning.specs.Basic.{same_list};
+ghost use Rattle.std.specs.Prelude.{◌≡◌, ◌<◌, ◌≤◌, length, MatchOption};
 ghost use Rattle.meaning.specs.Joint.{first};
 ghost use Rattle.groups.specs.ByIds.{fault_by, same_by, first_by, split_by};
 
@@ -12,78 +11,42 @@ pub fn first_of(g: &[u16], v: usize) -> usize
     requires { v < length g.now }
     ensures { (result ≡ first g.now v) × (result ≤ v) }
 {
-    let mut first = 0;
-    while first < v {
-        if g[first] == g[v] {
-            return first;
-        }
-        first = first + 1;
-    }
-    v
+    (0..v).find(|u| g[*u] == g[v]).unwrap_or(v)
 }
 
-// The least signal whose id differs from that of the first of its class; n where none does.
-pub fn fault(g: &[u16], ids: &[u16]) -> usize
+// The least signal whose id differs from that of the first of its class, if there is one.
+pub fn fault(g: &[u16], ids: &[u16]) -> Option<usize>
     requires { length ids.now ≡ length g.now }
-    ensures { (result ≡ fault_by g.now ids.now) × (result ≤ length g.now) }
+    ensures { MatchOption result (fault_by g.now ids.now ≡ length g.now) (λ v. (v ≡ fault_by g.now ids.now) × (v < length g.now)) }
 {
-    let mut v = 0;
-    while v < g.len() {
-        let u = first_of(g, v);
-        if ids[u] != ids[v] {
-            return v;
-        }
-        v = v + 1;
-    }
-    v
+    (0..g.len()).find(|v| ids[first_of(g, *v)] != ids[*v])
 }
 
-// One class, and one id.
-fn together(g: &[u16], ids: &[u16], u: usize, v: usize) -> bool
-    requires { (u < length g.now) × (v < length g.now) × (length ids.now ≡ length g.now) }
-    ensures { result ≡ same_by g.now ids.now u v }
-{
-    if g[u] != g[v] {
-        return false;
-    }
-    ids[u] == ids[v]
+// A grouping with an id for each of its signals.
+#[derive(Clone, Copy)]
+struct Told<'a> {
+    g: &'a [u16],
+    ids: &'a [u16],
+    ghost same_length: { length ids.now ≡ length g.now },
 }
 
-// The first member of v's class, once the classes are split by id.
-fn first_with(g: &[u16], ids: &[u16], v: usize) -> usize
-    requires { (v < length g.now) × (length ids.now ≡ length g.now) }
-    ensures { (result ≡ first_by g.now ids.now v) × (result ≤ v) }
-{
-    let mut u = 0;
-    while u < v {
-        if together(g, ids, u, v) {
-            return u;
-        }
-        u = u + 1;
+impl<'a> Told<'a> {
+    // One class, and one id.
+    #[tactic(auto, unfolding(crate::specs::ByIds::same_by, meaning::specs::Joint::class))]
+    fn together(&self, u: usize, v: usize) -> bool
+        requires { (u < length self.now.g.now) × (v < length self.now.g.now) }
+        ensures { result ≡ same_by self.now.g.now self.now.ids.now u v }
+    {
+        self.g[u] == self.g[v] && self.ids[u] == self.ids[v]
     }
-    v
-}
 
-// The class number of v, after `count` classes: that of u, the first member of its class, or the next where that is v itself.
-fn number(out: &[u16], u: usize, v: usize, count: u16) -> u16
-    requires { u < length out.now }
-    ensures { (u < v → result ≡ get_or out.now u 0) × (v ≤ u → result ≡ count) }
-{
-    if u < v {
-        return out[u];
+    // The first member of v's class, once the classes are split by id.
+    fn first(&self, v: usize) -> usize
+        requires { v < length self.now.g.now }
+        ensures { (result ≡ first_by self.now.g.now self.now.ids.now v) × (result ≤ v) }
+    {
+        (0..v).find(|u| self.together(*u, v)).unwrap_or(v)
     }
-    count
-}
-
-// How many classes there are with class c, after `count` of them.
-fn counted(count: u16, c: u16) -> u16
-    requires { c < 65535 }
-    ensures { result ≡ max count (c + 1) }
-{
-    if c < count {
-        return count;
-    }
-    c + 1
 }
 
 // The classes split by id, numbered from 0 in order of first member.
@@ -91,40 +54,12 @@ pub fn split(g: &[u16], ids: &[u16], out: &mut [u16])
     requires { (length ids.now ≡ length g.now) × (length out.old ≡ length g.now) × (length g.now ≤ 65535) }
     ensures { out.new ≡ split_by g.now ids.now }
 {
+    let told = Told { g, ids };
     let mut count = 0;
-    let mut v = 0;
-    while v < g.len() {
-        let u = first_with(g, ids, v);
-        let c = number(out, u, v, count);
+    for v in 0..g.len() {
+        let u = told.first(v);
+        let c = if u < v { out[u] } else { count };
         out[v] = c;
-        count = counted(count, c);
-        v = v + 1;
-    }
-}
-
-// Whether two groupings of n signals are the same.
-pub fn same_groups(g: &[u16], h: &[u16]) -> bool
-    requires { length h.now ≡ length g.now }
-    ensures { result ≡ same_list g.now h.now }
-{
-    let mut v = 0;
-    while v < g.len() {
-        if g[v] != h[v] {
-            return false;
-        }
-        v = v + 1;
-    }
-    true
-}
-
-// Each number of `from` to its place in `to`.
-pub fn copy(from: &[u16], to: &mut [u16])
-    requires { length to.old ≡ length from.now }
-    ensures { to.new ≡ from.now }
-{
-    let mut v = 0;
-    while v < from.len() {
-        to[v] = from[v];
-        v = v + 1;
+        count = count.max(c + 1);
     }
 }

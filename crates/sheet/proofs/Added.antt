@@ -1,29 +1,35 @@
 -- One more record: what has been read is then the paper's part with that record added. Assumes nothing.
 use mathlib.Core.Path.{◌≡◌, refl, ap, ◌∙◌}
-use mathlib.Core.List.{[], ◌∷◌, ◌++◌}
+use mathlib.Core.Bool.{false}
+use mathlib.Core.List.{[], ◌∷◌, ◌++◌, map-append}
 use Prim.Native.Nat.{ℕ, ◌<◌}
 use native.Mathlib.Omega.{arith}
-use lib.Seq.{get_or-set_same, get_or-set_other}
-use borrow.Author.Tests.{eq-eqb, ne_eqb}
-use Rattle.meaning.specs.Numbers.{REGISTER, OUTPUT, max_signals, max_outputs}
+use lib.Dec.{eqb}
+use lib.ListN.{get_or-append}
+use lib.Seq.{get_or-append_seam}
+use borrow.Author.Tests.{ne_eqb}
+use Rattle.arrayvec.specs.ArrayVec.{array_vec_len}
+use Rattle.meaning.specs.Numbers.{REGISTER, OUTPUT, max_outputs}
 use Rattle.meaning.specs.Sheet as paper
+use Rattle.sheet.specs.declared.kind.Kind.{Kind}
+use Rattle.sheet.specs.declared.kind.Kind.TheVariants.{Input, Register, Not, And, Or, Xor}
 use Rattle.sheet.specs.declared.Signal.{Signal}
 use Rattle.sheet.specs.declared.Output.{Output}
 use Rattle.sheet.specs.declared.Sheet.{Sheet}
+use Rattle.sheet.specs.declared.record.Record.TheVariants as says
 use Rattle.sheet.specs.declared.reader.Part.{Part}
-use Rattle.sheet.specs.Stored.{sheet_of, nth_signal, nth_output}
+use Rattle.sheet.specs.Stored.{number_of_kind, signal_of, output_of, sheet_of, nth_signal, nth_output}
 use Rattle.sheet.specs.Record.{part_of, Fits}
-use Rattle.sheet.specs.Part.{count_of, sheet_with_signal, sheet_with_output, max_names, empty_part, part_with_sheet, part_with_name, name_of, names_of, Among, KeptPart, part_is, Added}
-use Rattle.sheet.proofs.Places.{places_none, places_more}
+use Rattle.sheet.specs.Part.{sheet_with_signal, sheet_with_output, max_names, empty_part, part_with_sheet, part_with_name, name_of, names_of, Among, KeptPart, part_is, Added}
+use Rattle.sheet.proofs.Right.{number_same}
 use Rattle.sheet.proofs.Whole.{empty_kept}
-use Rattle.sheet.proofs.Grows.{each_more, used_snoc, signals_snoc, signal_kept, outputs_snoc, output_kept}
+use Rattle.sheet.proofs.Grows.{length_more, each_more, signals_snoc, signal_kept, outputs_snoc, output_kept}
 
 -- ## Nothing has been read
 
 pub part_empty : KeptPart empty_part
 part_empty = record {
   sheet = empty_kept;
-  naming = places_none {m = max_names};
   names = refl;
   sources = λ i h. absurd (omega arith);
   shown = λ i h. absurd (omega arith);
@@ -35,123 +41,112 @@ nothing_yet = refl
 
 -- ## Names
 
-module _ (p : Part) (s : Sheet) (at signal : ℕ) (w : KeptPart p) (h : p.names < max_names) where
+module _ (p : Part) (s : Sheet) (at signal : ℕ) where
   pub names_snoc : names_of (part_with_name p s at signal) ≡ names_of p ++ ((at, signal) ∷ [])
   unfolding names_of name_of
-  names_snoc = used_snoc name_of p.naming p.names (record { at = at; signal = signal }) w.naming h
+  names_snoc = map-append name_of p.naming.items (record { at = at; signal = signal } ∷ [])
 
   among_old : (x : ℕ) → Among p x → Among (part_with_name p s at signal) x
   among_old x m = record {
     place = m.place;
-    used = omega (arith, m.used);
-    here =
-        ap (λ (n : _). n.signal) (get_or-set_other p.naming p.names m.place (record { at = at; signal = signal }) _ (λ e. omega (arith, m.used)))
-        ∙ m.here;
+    used = omega (arith, m.used, length_more p.naming.items (record { at = at; signal = signal }));
+    here = ap (λ (n : _). n.signal) (get_or-append p.naming.items (record { at = at; signal = signal } ∷ []) _ m.place m.used) ∙ m.here;
   }
 
   among_new : Among (part_with_name p s at signal) signal
   among_new = record {
-    place = p.names;
-    used = omega arith;
-    here =
-        ap (λ (n : _). n.signal) (get_or-set_same p.naming p.names (record { at = at; signal = signal }) _ (omega (arith, w.naming.whole)));
+    place = array_vec_len p.naming;
+    used = omega (arith, length_more p.naming.items (record { at = at; signal = signal }));
+    here = ap (λ (n : _). n.signal) (get_or-append_seam p.naming.items (record { at = at; signal = signal }) [] _);
   }
 
--- ## The three ways in which a record is added
+no_output : (k : Kind) → eqb (number_of_kind k) OUTPUT ≡ false
+no_output Input = refl
+no_output Register = refl
+no_output Not = refl
+no_output And = refl
+no_output Or = refl
+no_output Xor = refl
 
-module _ {p : Part} {k a b : ℕ} (w : KeptPart p) (f : Fits p.sheet k a b) where
+-- ## The ways in which a record is added
+
+module _ {p : Part} (w : KeptPart p) where
   abbrev s : Sheet
   s = p.sheet
 
-  module _ (o : k ≡ OUTPUT) where
-    few_outputs : s.outputs < max_outputs
-    few_outputs = f.output o
-
-    pub output_names : p.names < max_names
-    output_names = omega (arith, w.names, w.sheet.few_registers, few_outputs)
+  module _ (o : Output) (few : array_vec_len s.outputs < max_outputs) where
+    pub output_names : array_vec_len p.naming < max_names
+    output_names = omega (arith, w.names, w.sheet.few_registers)
 
     abbrev with_output : ℕ → Part
-    with_output at = part_with_name p (sheet_with_output s a b) at b
+    with_output at = part_with_name p (sheet_with_output s o) at o.signal
 
-    output_is : (at : ℕ) → part_is (with_output at) ≡ paper.add (part_is p) at k a b
-    unfolding part_is part_of paper.add sheet_of
-    output_is at =
-        rw (eq-eqb k OUTPUT o, names_snoc p (sheet_with_output s a b) at b w output_names, outputs_snoc s a b w.sheet few_outputs)
+    output_is : (at : ℕ) → part_is (with_output at) ≡ paper.add (part_is p) at OUTPUT o.pin o.signal
+    unfolding part_is part_of paper.add sheet_of output_of
+    output_is at = rw (names_snoc p (sheet_with_output s o) at o.signal, outputs_snoc s o w.sheet few)
 
-    pub added_output : (at : ℕ) → Added p at k a b (with_output at)
+    pub added_output : (at : ℕ) → Added p at (says.Output o) (with_output at)
     added_output at = record {
       is = output_is at;
       kept = record {
-        sheet = output_kept s a b w.sheet few_outputs;
-        naming = places_more p.naming p.names (record { at = at; signal = b }) w.naming output_names;
-        names = omega (arith, w.names);
-        sources = λ i h e. among_old p (sheet_with_output s a b) at b w output_names (nth_signal s i).b (w.sources i h e);
+        sheet = output_kept s o w.sheet few;
+        names = omega (arith, w.names, length_more p.naming.items (record { at = at; signal = o.signal }), length_more s.outputs.items o);
+        sources = λ i h e. among_old p (sheet_with_output s o) at o.signal (nth_signal s i).b (w.sources i h e);
         shown =
-            each_more (λ (i : ℕ) (x : Output). Among (with_output at) x.signal) s.output s.outputs (record { pin = a; signal = b })
-            w.sheet.outputs few_outputs
-            (λ i h. among_old p (sheet_with_output s a b) at b w output_names (nth_output s i).signal (w.shown i h))
-            (among_new p (sheet_with_output s a b) at b w output_names);
+            each_more s.outputs.items o (λ (i : ℕ) (y : Output). Among (with_output at) y.signal) _
+            (λ i h. among_old p (sheet_with_output s o) at o.signal (nth_output s i).signal (w.shown i h))
+            (among_new p (sheet_with_output s o) at o.signal);
       };
     }
 
-  module _ (o : k ≡ OUTPUT → ⊥) where
-    few_signals : s.signals < max_signals
-    few_signals = f.signal o
-
-    abbrev x : Signal
-    x = record { kind = k; a = a; b = b }
-
-    -- a signal of another kind than REGISTER names none
-    module _ (r : k ≡ REGISTER → ⊥) where
+  module _ (x : Signal) (f : Fits s x) where
+    -- a signal of another kind than Register names none
+    module _ (r : x.kind ≡ Register → ⊥) where
       abbrev with_gate : Part
-      with_gate = part_with_sheet p (sheet_with_signal s k a b)
+      with_gate = part_with_sheet p (sheet_with_signal s x)
 
-      gate_is : (at : ℕ) → part_is with_gate ≡ paper.add (part_is p) at k a b
-      unfolding part_is part_of names_of paper.add sheet_of
-      gate_is at = rw (ne_eqb k OUTPUT o, ne_eqb k REGISTER r, signals_snoc s k a b w.sheet f o)
+      no_register : eqb (number_of_kind x.kind) REGISTER ≡ false
+      no_register = ne_eqb (number_of_kind x.kind) REGISTER (λ e. r (number_same x.kind Register e))
 
-      pub added-gate : (at : ℕ) → Added p at k a b with_gate
-      unfolding count_of
+      gate_is : (at : ℕ) → part_is with_gate ≡ paper.add (part_is p) at (number_of_kind x.kind) x.a x.b
+      unfolding part_is part_of names_of paper.add sheet_of signal_of
+      gate_is at = rw (no_output x.kind, no_register, signals_snoc s x w.sheet f)
+
+      pub added-gate : (at : ℕ) → Added p at (says.Signal x) with_gate
       added-gate at = record {
         is = gate_is at;
         kept = record {
-          sheet = signal_kept s k a b w.sheet f o;
-          naming = w.naming;
-          names = rw (ne_eqb k REGISTER r) (omega (arith, w.names));
+          sheet = signal_kept s x w.sheet f;
+          names = rw no_register (omega (arith, w.names));
           sources =
-              each_more (λ (i : ℕ) (y : Signal). y.kind ≡ REGISTER → Among with_gate y.b) s.signal s.signals x
-              w.sheet.signals few_signals
+              each_more s.signals.items x (λ (i : ℕ) (y : Signal). y.kind ≡ Register → Among with_gate y.b) _
               (λ i h e. let m = w.sources i h e in record { place = m.place; used = m.used; here = m.here })
               (λ e. absurd (r e));
           shown = λ i h. let m = w.shown i h in record { place = m.place; used = m.used; here = m.here };
         };
       }
 
-    module _ (r : k ≡ REGISTER) where
-      pub register_names : p.names < max_names
-      register_names = omega (arith, w.names, w.sheet.outputs.within, f.register r)
+    module _ (r : x.kind ≡ Register) where
+      pub register_names : array_vec_len p.naming < max_names
+      register_names = omega (arith, w.names, w.sheet.few_outputs, f.register r)
 
       abbrev with_register : ℕ → Part
-      with_register at = part_with_name p (sheet_with_signal s k a b) at b
+      with_register at = part_with_name p (sheet_with_signal s x) at x.b
 
-      register_is : (at : ℕ) → part_is (with_register at) ≡ paper.add (part_is p) at k a b
-      unfolding part_is part_of paper.add sheet_of
-      register_is at =
-          rw (ne_eqb k OUTPUT o, eq-eqb k REGISTER r, names_snoc p (sheet_with_signal s k a b) at b w register_names, signals_snoc s k a b w.sheet f o)
+      register_is : (at : ℕ) → part_is (with_register at) ≡ paper.add (part_is p) at (number_of_kind x.kind) x.a x.b
+      unfolding part_is part_of paper.add sheet_of signal_of
+      register_is at = rw (names_snoc p (sheet_with_signal s x) at x.b, signals_snoc s x w.sheet f, r)
 
-      pub added-register : (at : ℕ) → Added p at k a b (with_register at)
-      unfolding count_of
+      pub added-register : (at : ℕ) → Added p at (says.Signal x) (with_register at)
       added-register at = record {
         is = register_is at;
         kept = record {
-          sheet = signal_kept s k a b w.sheet f o;
-          naming = places_more p.naming p.names (record { at = at; signal = b }) w.naming register_names;
-          names = rw (eq-eqb k REGISTER r) (omega (arith, w.names));
+          sheet = signal_kept s x w.sheet f;
+          names = rw r (omega (arith, w.names, length_more p.naming.items (record { at = at; signal = x.b })));
           sources =
-              each_more (λ (i : ℕ) (y : Signal). y.kind ≡ REGISTER → Among (with_register at) y.b) s.signal s.signals x
-              w.sheet.signals few_signals
-              (λ i h e. among_old p (sheet_with_signal s k a b) at b w register_names (nth_signal s i).b (w.sources i h e))
-              (λ e. among_new p (sheet_with_signal s k a b) at b w register_names);
-          shown = λ i h. among_old p (sheet_with_signal s k a b) at b w register_names (nth_output s i).signal (w.shown i h);
+              each_more s.signals.items x (λ (i : ℕ) (y : Signal). y.kind ≡ Register → Among (with_register at) y.b) _
+              (λ i h e. among_old p (sheet_with_signal s x) at x.b (nth_signal s i).b (w.sources i h e))
+              (λ e. among_new p (sheet_with_signal s x) at x.b);
+          shown = λ i h. among_old p (sheet_with_signal s x) at x.b (nth_output s i).signal (w.shown i h);
         };
       }

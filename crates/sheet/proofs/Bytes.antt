@@ -6,55 +6,61 @@ use native.Mathlib.Numerals.{add-one}
 use native.Mathlib.Omega.{arith}
 use lib.ListN.{length, get_or, take, drop, length-append, take-append-drop}
 use lib.Seq.{take-suc}
+use Rattle.arrayvec.specs.ArrayVec.{array_vec_len}
 use Rattle.meaning.specs.Numbers.{OUTPUT, END}
 use Rattle.meaning.specs.Basic.{concat_map}
 use Rattle.meaning.specs.Sheet as paper
+use Rattle.sheet.specs.declared.kind.Kind.{Kind}
+use Rattle.sheet.specs.declared.kind.Kind.TheVariants.{Input, Register, Not, And, Or, Xor}
 use Rattle.sheet.specs.declared.Signal.{Signal}
 use Rattle.sheet.specs.declared.Output.{Output}
 use Rattle.sheet.specs.declared.Sheet.{Sheet}
-use Rattle.sheet.specs.Stored.{signal_of, output_of, sheet_of, no_signal, no_output, nth_signal, nth_output, Right, Kept}
+use Rattle.sheet.specs.Stored.{number_of_kind, signal_of, output_of, sheet_of, no_signal, no_output, nth_signal, nth_output, Right, Kept}
 use Rattle.sheet.specs.Writing.{bytes_of_record}
 use Rattle.sheet.proofs.Whole.{signal_at, output_at}
-use Rattle.sheet.proofs.Right.{by_kind, bit_own, signal_input, signal_register, signal_inverter, signal_and, signal_or, signal_xor}
+use Rattle.sheet.proofs.Right.{bit_own}
 
 -- ## Records
 
-module _ (i : ℕ) (x : Signal) (r : Right i x) where
-  pub signal_bytes : bytes_of_record x.kind x.a x.b ≡ paper.bytes_of_signal (signal_of x)
-  unfolding bytes_of_record paper.body_of paper.bytes_of_signal paper.gate_kind
-  signal_bytes =
-      by_kind i x r
-      (λ e. sym (ap paper.bytes_of_signal (signal_input x e) ∙ rw e))
-      (λ e. sym (ap paper.bytes_of_signal (signal_register x e) ∙ rw (e, bit_own x.a (r.initial e))))
-      (λ e. sym (ap paper.bytes_of_signal (signal_inverter x e) ∙ rw e))
-      (λ e. sym (ap paper.bytes_of_signal (signal_and x e) ∙ rw e))
-      (λ e. sym (ap paper.bytes_of_signal (signal_or x e) ∙ rw e))
-      (λ e. sym (ap paper.bytes_of_signal (signal_xor x e) ∙ rw e))
+kind_bytes : (k : Kind) (a b : ℕ) → (k ≡ Register → a ≤ 1)
+    → take (1 + paper.body_of (number_of_kind k)) (number_of_kind k ∷ a ∷ b ∷ []) ≡ paper.bytes_of_signal (paper.signal_of (number_of_kind k) a b)
+unfolding paper.body_of paper.bytes_of_signal paper.signal_of paper.gate_kind
+kind_bytes Input a b h = refl
+kind_bytes Register a b h = rw (bit_own a (h refl))
+kind_bytes Not a b h = refl
+kind_bytes And a b h = refl
+kind_bytes Or a b h = refl
+kind_bytes Xor a b h = refl
 
-  pub signal_length : length (paper.bytes_of_signal (signal_of x)) ≡ 1 + paper.body_of x.kind
-  unfolding paper.body_of paper.bytes_of_signal paper.gate_kind
-  signal_length =
-      by_kind i x r
-      (λ e. ap (λ (y : paper.Signal). length (paper.bytes_of_signal y)) (signal_input x e) ∙ rw e)
-      (λ e. ap (λ (y : paper.Signal). length (paper.bytes_of_signal y)) (signal_register x e) ∙ rw e)
-      (λ e. ap (λ (y : paper.Signal). length (paper.bytes_of_signal y)) (signal_inverter x e) ∙ rw e)
-      (λ e. ap (λ (y : paper.Signal). length (paper.bytes_of_signal y)) (signal_and x e) ∙ rw e)
-      (λ e. ap (λ (y : paper.Signal). length (paper.bytes_of_signal y)) (signal_or x e) ∙ rw e)
-      (λ e. ap (λ (y : paper.Signal). length (paper.bytes_of_signal y)) (signal_xor x e) ∙ rw e)
+kind_length : (k : Kind) (a b : ℕ) → length (paper.bytes_of_signal (paper.signal_of (number_of_kind k) a b)) ≡ 1 + paper.body_of (number_of_kind k)
+unfolding paper.body_of paper.bytes_of_signal paper.signal_of
+kind_length Input a b = refl
+kind_length Register a b = refl
+kind_length Not a b = refl
+kind_length And a b = refl
+kind_length Or a b = refl
+kind_length Xor a b = refl
 
-pub output_bytes : (x : Output) → bytes_of_record OUTPUT x.pin x.signal ≡ paper.bytes_of_output (output_of x)
-unfolding bytes_of_record paper.body_of paper.bytes_of_output output_of
-output_bytes x = refl
+pub signal_length : (x : Signal) → length (paper.bytes_of_signal (signal_of x)) ≡ 1 + paper.body_of (number_of_kind x.kind)
+unfolding signal_of
+signal_length x = kind_length x.kind x.a x.b
+
+signal_bytes : (i : ℕ) (x : Signal) → Right i x → bytes_of_record x ≡ paper.bytes_of_signal (signal_of x)
+unfolding bytes_of_record signal_of
+signal_bytes i x r = kind_bytes x.kind x.a x.b r.initial
+
+output_bytes : (o : Output) → OUTPUT ∷ o.pin ∷ o.signal ∷ [] ≡ paper.bytes_of_output (output_of o)
+unfolding paper.bytes_of_output output_of
+output_bytes o = refl
 
 -- record i of a stored sheet
 module _ (s : Sheet) (w : Kept s) (i : ℕ) where
-  pub signal_here : i < s.signals
-      → bytes_of_record (nth_signal s i).kind (nth_signal s i).a (nth_signal s i).b ≡ paper.bytes_of_signal (get_or (sheet_of s).signals i (signal_of no_signal))
-  signal_here h = signal_bytes i (nth_signal s i) (w.right i h) ∙ ap paper.bytes_of_signal (sym (signal_at s w i (signal_of no_signal) h))
+  pub signal_here : i < array_vec_len s.signals → bytes_of_record (nth_signal s i) ≡ paper.bytes_of_signal (get_or (sheet_of s).signals i (signal_of no_signal))
+  signal_here h = signal_bytes i (nth_signal s i) (w.right i h) ∙ ap paper.bytes_of_signal (sym (signal_at s i (signal_of no_signal) h))
 
-  pub output_here : i < s.outputs
-      → bytes_of_record OUTPUT (nth_output s i).pin (nth_output s i).signal ≡ paper.bytes_of_output (get_or (sheet_of s).outputs i (output_of no_output))
-  output_here h = output_bytes (nth_output s i) ∙ ap paper.bytes_of_output (sym (output_at s w i (output_of no_output) h))
+  pub output_here : i < array_vec_len s.outputs
+      → OUTPUT ∷ (nth_output s i).pin ∷ (nth_output s i).signal ∷ [] ≡ paper.bytes_of_output (get_or (sheet_of s).outputs i (output_of no_output))
+  output_here h = output_bytes (nth_output s i) ∙ ap paper.bytes_of_output (sym (output_at s i (output_of no_output) h))
 
 -- ## Lists
 

@@ -1,43 +1,45 @@
 -- One more signal or output: what a sheet then is, and that it is kept right. Assumes nothing.
 use Rattle.std.specs.Prelude.{if◌then◌else◌}
-use mathlib.Core.Path.{◌≡◌, sym, ap, ◌∙◌, subst}
+use mathlib.Core.Path.{◌≡◌, refl, sym, ap, subst}
 use mathlib.Core.Bool.{Bool}
-use mathlib.Core.List.{List, [], ◌∷◌, ◌++◌, map, map-append}
+use mathlib.Core.List.{List, [], ◌∷◌, ◌++◌, map-append}
 use Prim.Native.Nat.{ℕ, ◌+◌, ◌≤◌, ◌<◌}
 use native.Mathlib.Omega.{arith}
-use lib.ListN.{length, get_or, take, set}
+use lib.ListN.{length, get_or, length-append, get_or-append}
 use lib.Dec.{eqb, ltb}
-use lib.Seq.{get_or-set_same, get_or-set_other}
+use lib.Seq.{get_or-append_seam}
 use borrow.Author.Tests.{ltb-true, ltb-false, eqb-true}
-use Rattle.meaning.specs.Numbers.{INPUT, REGISTER, OUTPUT, max_inputs, max_registers, max_outputs}
+use Rattle.arrayvec.specs.ArrayVec.{array_vec_len}
+use Rattle.meaning.specs.Numbers.{INPUT, REGISTER, max_inputs, max_registers, max_outputs}
 use Rattle.meaning.specs.Basic.{keep}
 use Rattle.meaning.specs.Sheet as paper
 use Rattle.laws.proofs.Basic.{case_bool}
+use Rattle.sheet.specs.declared.kind.Kind.{Kind}
+use Rattle.sheet.specs.declared.kind.Kind.TheVariants.{Input, Register, Not, And, Or, Xor}
 use Rattle.sheet.specs.declared.Signal.{Signal}
+use Rattle.sheet.specs.declared.Output.{Output}
 use Rattle.sheet.specs.declared.Sheet.{Sheet}
-use Rattle.sheet.specs.Stored.{signal_of, output_of, sheet_of, Places, Right, Kept}
+use Rattle.sheet.specs.Stored.{number_of_kind, signal_of, output_of, sheet_of, Right, Kept}
 use Rattle.sheet.specs.Record.{Fits}
 use Rattle.sheet.specs.Part.{count_of, sheet_with_signal, sheet_with_output}
-use Rattle.sheet.proofs.Places.{places_more, used_more}
-use Rattle.sheet.proofs.Right.{by_kind, signal_input, signal_register, signal_inverter, signal_and, signal_or, signal_xor}
+use Rattle.sheet.proofs.Right.{number_same}
 
--- ## One more place
+-- ## One more
 
--- what holds of each used place and of the next one holds of each when that is used too
-pub each_more : {A : Type 0} (P : ℕ → A → Type 0) {m : ℕ} {none : A} (l : List A) (n : ℕ) (v : A) → Places m none l n → n < m
-    → ((i : ℕ) → i < n → P i (get_or l i none)) → P n v → (i : ℕ) → i < n + 1 → P i (get_or (set l n v) i none)
-each_more P {m} {none} l n v p h old new i b =
-    case_bool (ltb i n)
-    (λ t. let k = ltb-true i n t in subst (P i) (sym (get_or-set_other l n i v none (λ e. omega arith))) (old i k))
-    (λ t.
-    let k = ltb-false i n t in
-    let e : i ≡ n = omega arith in
-    rw e (subst (P n) (sym (get_or-set_same l n v none (omega (arith, p.whole)))) new))
+module _ {A : Type 0} (l : List A) (v : A) where
+  pub length_more : length (l ++ v ∷ []) ≡ length l + 1
+  length_more = length-append l (v ∷ [])
 
--- what one more place stands for
-pub used_snoc : {A B : Type 0} (f : A → B) {m : ℕ} {none : A} (l : List A) (n : ℕ) (v : A) → Places m none l n → n < m
-    → map f (take (n + 1) (set l n v)) ≡ map f (take n l) ++ (f v ∷ [])
-used_snoc f l n v p h = ap (map f) (used_more l n v p h) ∙ map-append f (take n l) (v ∷ [])
+  -- what holds of each and of one more holds of each when that is added
+  pub each_more : (P : ℕ → A → Type 0) (none : A)
+      → ((i : ℕ) → i < length l → P i (get_or l i none)) → P (length l) v → (i : ℕ) → i < length (l ++ v ∷ []) → P i (get_or (l ++ v ∷ []) i none)
+  each_more P none old new i b =
+      case_bool (ltb i (length l))
+      (λ t. let k = ltb-true i (length l) t in subst (P i) (sym (get_or-append l (v ∷ []) none i k)) (old i k))
+      (λ t.
+      let k = ltb-false i (length l) t in
+      let e : i ≡ length l = omega (arith, length_more) in
+      rw e (subst (P (length l)) (sym (get_or-append_seam l v [] none)) new))
 
 -- ## Counts
 
@@ -49,32 +51,26 @@ kept_snoc p (y ∷ xs) x =
     case_bool (p y) (λ t. rw (t, keep) (omega arith)) (λ t. rw (t, keep) rest)
 
 -- a record defines an input, or a register, exactly if it has that kind
-module _ (i : ℕ) (x : Signal) (r : Right i x) where
-  is_input : paper.signal_is_input (signal_of x) ≡ eqb x.kind INPUT
-  unfolding paper.signal_is_input
-  is_input =
-      by_kind i x r
-      (λ e. ap paper.signal_is_input (signal_input x e) ∙ rw e)
-      (λ e. ap paper.signal_is_input (signal_register x e) ∙ rw e)
-      (λ e. ap paper.signal_is_input (signal_inverter x e) ∙ rw e)
-      (λ e. ap paper.signal_is_input (signal_and x e) ∙ rw e)
-      (λ e. ap paper.signal_is_input (signal_or x e) ∙ rw e)
-      (λ e. ap paper.signal_is_input (signal_xor x e) ∙ rw e)
+is_input : (k : Kind) (a b : ℕ) → paper.signal_is_input (paper.signal_of (number_of_kind k) a b) ≡ eqb (number_of_kind k) INPUT
+unfolding paper.signal_is_input paper.signal_of
+is_input Input a b = refl
+is_input Register a b = refl
+is_input Not a b = refl
+is_input And a b = refl
+is_input Or a b = refl
+is_input Xor a b = refl
 
-  is_register : paper.signal_is_register (signal_of x) ≡ eqb x.kind REGISTER
-  unfolding paper.signal_is_register
-  is_register =
-      by_kind i x r
-      (λ e. ap paper.signal_is_register (signal_input x e) ∙ rw e)
-      (λ e. ap paper.signal_is_register (signal_register x e) ∙ rw e)
-      (λ e. ap paper.signal_is_register (signal_inverter x e) ∙ rw e)
-      (λ e. ap paper.signal_is_register (signal_and x e) ∙ rw e)
-      (λ e. ap paper.signal_is_register (signal_or x e) ∙ rw e)
-      (λ e. ap paper.signal_is_register (signal_xor x e) ∙ rw e)
+is_register : (k : Kind) (a b : ℕ) → paper.signal_is_register (paper.signal_of (number_of_kind k) a b) ≡ eqb (number_of_kind k) REGISTER
+unfolding paper.signal_is_register paper.signal_of
+is_register Input a b = refl
+is_register Register a b = refl
+is_register Not a b = refl
+is_register And a b = refl
+is_register Or a b = refl
+is_register Xor a b = refl
 
 -- a count that grows only where its limit has room
 pub room : (k x m l : ℕ) → m ≤ l → (k ≡ x → m < l) → m + count_of k x ≤ l
-unfolding count_of
 room k x m l h g =
     case_bool (eqb k x)
     (λ t. let b : m < l = g (eqb-true k x t) in rw t (omega arith))
@@ -82,49 +78,46 @@ room k x m l h g =
 
 -- ## One more signal
 
-module _ (s : Sheet) (k a b : ℕ) (w : Kept s) (f : Fits s k a b) (o : k ≡ OUTPUT → ⊥) where
-  abbrev x : Signal
-  x = record { kind = k; a = a; b = b }
+module _ (s : Sheet) (x : Signal) (w : Kept s) (f : Fits s x) where
+  pub signals_snoc : (sheet_of (sheet_with_signal s x)).signals ≡ (sheet_of s).signals ++ (signal_of x ∷ [])
+  unfolding sheet_of
+  signals_snoc = map-append signal_of s.signals.items (x ∷ [])
 
-  pub signals_snoc : (sheet_of (sheet_with_signal s k a b)).signals ≡ (sheet_of s).signals ++ (paper.signal_of k a b ∷ [])
-  unfolding sheet_of signal_of
-  signals_snoc = used_snoc signal_of s.signal s.signals x w.signals (f.signal o)
-
-  inputs_snoc : s.inputs + count_of k INPUT ≡ paper.inputs (sheet_of (sheet_with_signal s k a b)).signals
-  unfolding paper.inputs count_of signal_of
+  inputs_snoc : s.inputs + count_of (number_of_kind x.kind) INPUT ≡ paper.inputs (sheet_of (sheet_with_signal s x)).signals
+  unfolding paper.inputs signal_of
   inputs_snoc =
-      rw (signals_snoc, kept_snoc paper.signal_is_input, is_input s.signals x (f.right o))
-      (ap (λ (n : ℕ). n + (if eqb k INPUT then 1 else 0)) w.inputs)
+      rw (signals_snoc, kept_snoc paper.signal_is_input, is_input x.kind x.a x.b)
+      (ap (λ (n : ℕ). n + (if eqb (number_of_kind x.kind) INPUT then 1 else 0)) w.inputs)
 
-  registers_snoc : s.registers + count_of k REGISTER ≡ paper.registers (sheet_of (sheet_with_signal s k a b)).signals
-  unfolding paper.registers count_of signal_of
+  registers_snoc : s.registers + count_of (number_of_kind x.kind) REGISTER ≡ paper.registers (sheet_of (sheet_with_signal s x)).signals
+  unfolding paper.registers signal_of
   registers_snoc =
-      rw (signals_snoc, kept_snoc paper.signal_is_register, is_register s.signals x (f.right o))
-      (ap (λ (n : ℕ). n + (if eqb k REGISTER then 1 else 0)) w.registers)
+      rw (signals_snoc, kept_snoc paper.signal_is_register, is_register x.kind x.a x.b)
+      (ap (λ (n : ℕ). n + (if eqb (number_of_kind x.kind) REGISTER then 1 else 0)) w.registers)
 
-  pub signal_kept : Kept (sheet_with_signal s k a b)
+  pub signal_kept : Kept (sheet_with_signal s x)
   signal_kept = record {
-    signals = places_more s.signal s.signals x w.signals (f.signal o);
-    outputs = w.outputs;
+    few_signals = omega (arith, length_more s.signals.items x, f.signal);
+    few_outputs = w.few_outputs;
     inputs = inputs_snoc;
-    few_inputs = room k INPUT s.inputs max_inputs w.few_inputs f.input;
+    few_inputs = room (number_of_kind x.kind) INPUT s.inputs max_inputs w.few_inputs (λ e. f.input (number_same x.kind Input e));
     registers = registers_snoc;
-    few_registers = room k REGISTER s.registers max_registers w.few_registers f.register;
-    right = each_more Right s.signal s.signals x w.signals (f.signal o) w.right (f.right o);
+    few_registers = room (number_of_kind x.kind) REGISTER s.registers max_registers w.few_registers (λ e. f.register (number_same x.kind Register e));
+    right = each_more s.signals.items x Right _ w.right f.right;
   }
 
 -- ## One more output
 
-module _ (s : Sheet) (pin signal : ℕ) (w : Kept s) (h : s.outputs < max_outputs) where
-  pub outputs_snoc : (sheet_of (sheet_with_output s pin signal)).outputs ≡ (sheet_of s).outputs ++ (record { pin = pin; signal = signal } ∷ [])
-  unfolding sheet_of output_of
-  outputs_snoc = used_snoc output_of s.output s.outputs (record { pin = pin; signal = signal }) w.outputs h
+module _ (s : Sheet) (o : Output) (w : Kept s) (h : array_vec_len s.outputs < max_outputs) where
+  pub outputs_snoc : (sheet_of (sheet_with_output s o)).outputs ≡ (sheet_of s).outputs ++ (output_of o ∷ [])
+  unfolding sheet_of
+  outputs_snoc = map-append output_of s.outputs.items (o ∷ [])
 
-  pub output_kept : Kept (sheet_with_output s pin signal)
+  pub output_kept : Kept (sheet_with_output s o)
   unfolding sheet_of
   output_kept = record {
-    signals = w.signals;
-    outputs = places_more s.output s.outputs (record { pin = pin; signal = signal }) w.outputs h;
+    few_signals = w.few_signals;
+    few_outputs = omega (arith, length_more s.outputs.items o, h);
     inputs = w.inputs;
     few_inputs = w.few_inputs;
     registers = w.registers;

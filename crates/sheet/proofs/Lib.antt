@@ -1,4 +1,4 @@
-pub mod Places
+pub mod Mapped
 pub mod Right
 pub mod Whole
 pub mod Tests
@@ -12,4 +12,5 @@ pub mod Files
 pub mod Bytes
 pub mod Sizes
 pub mod Puts
+pub mod Putting
 pub mod Called

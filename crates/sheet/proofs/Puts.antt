@@ -1,17 +1,13 @@
 -- Putting the records of a list into a buffer, one after the other. Assumes nothing.
 use mathlib.Core.Path.{◌≡◌, refl, ap, ◌∙◌}
-use mathlib.Core.List.{List, [], ◌∷◌, ◌++◌}
-use Prim.Native.Nat.{ℕ, suc, ◌+◌, ◌≤◌, ◌<◌}
-use native.Mathlib.Numerals.{add-one}
+use mathlib.Core.List.{List, [], ◌∷◌, ◌++◌, append_assoc}
+use Prim.Native.Nat.{ℕ, suc, ◌+◌, ◌-◌, ◌≤◌, ◌<◌}
 use native.Mathlib.Omega.{arith}
+use borrow.Rule.Slice.PartMut.{put_mid}
 use lib.ListN.{length, get_or, take, set, length-append}
-use lib.Dec.{eqb}
-use lib.Seq.{sets, length-sets, take_all}
-use borrow.Author.Tests.{eq-eqb, ne_eqb}
+use lib.Seq.{sets, sets-eq, length-sets, take_all, drop-drop}
 use Rattle.meaning.specs.Basic.{concat_map}
-use Rattle.meaning.specs.Sheet as paper
-use Rattle.laws.proofs.Basic.{case_bool}
-use Rattle.sheet.specs.Writing.{bytes_of_record, Put}
+use Rattle.sheet.specs.Writing.{Put}
 use Rattle.sheet.proofs.Bytes.{concat_more, concat_part}
 
 -- bytes after bytes
@@ -29,27 +25,12 @@ put_append {old} {u} {mid} {v} {new} {at} p q = record {
 pub put_length : {old u new : List ℕ} {at next : ℕ} → Put old at u new next → length new ≡ length old
 put_length {old} {u} {new} {at} p = ap length p.result ∙ length-sets old at u
 
--- ## One record
-
-module _ (k a b : ℕ) where
-  pub record_two : 2 ≤ length (bytes_of_record k a b)
-  unfolding bytes_of_record
-  record_two = case_bool (eqb (paper.body_of k) 1) (λ t. rw t (omega arith)) (λ t. rw t (omega arith))
-
-  pub record_three : (paper.body_of k ≡ 1 → ⊥) → length (bytes_of_record k a b) ≡ 3
-  unfolding bytes_of_record
-  record_three n = rw (ne_eqb _ _ n)
-
-  module _ (old : List ℕ) (at : ℕ) where
-    pub put_short : paper.body_of k ≡ 1 → Put old at (bytes_of_record k a b) (set (set old at k) (at + 1) a) (at + 2)
-    unfolding bytes_of_record
-    put_short e = rw (eq-eqb _ _ e) (record { result = rw add-one; after = refl })
-
-    pub put_long : (paper.body_of k ≡ 1 → ⊥) → Put old at (bytes_of_record k a b) (set (set (set old at k) (at + 1) a) (at + 2) b) (at + 3)
-    unfolding bytes_of_record
-    put_long n =
-        let two : at + 2 ≡ suc (suc at) = omega arith in
-        rw (ne_eqb _ _ n) (record { result = rw (add-one, two); after = refl })
+-- bytes that are copied to an offset
+pub put_copied : (old : List ℕ) (at : ℕ) (bytes mid : List ℕ) → mid ≡ bytes → at + length bytes ≤ length old
+    → Put old at bytes (put_mid at (at + length bytes - at) old mid) (at + length bytes)
+put_copied old at bytes mid e h =
+    let n : at + length bytes - at ≡ length bytes = omega arith in
+    record { result = rw (e, n, drop-drop, sets-eq bytes old at h, append_assoc); after = refl }
 
 -- ## The first i records of a list have been put
 

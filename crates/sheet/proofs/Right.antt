@@ -6,64 +6,94 @@ use native.Mathlib.Omega.{arith}
 use lib.Dec.{eqb}
 use Rattle.meaning.specs.Numbers.{INPUT, REGISTER, NOT, AND, OR, XOR}
 use Rattle.meaning.specs.Sheet as paper
+use Rattle.sheet.specs.declared.kind.Kind.{Kind}
+use Rattle.sheet.specs.declared.kind.Kind.TheVariants.{Input, Register, Not, And, Or, Xor}
 use Rattle.sheet.specs.declared.Signal.{Signal}
-use Rattle.sheet.specs.Stored.{signal_of, Right}
+use Rattle.sheet.specs.Stored.{number_of_kind, signal_of, Right}
 
 -- ## The kinds that define a signal
 
-kinds {ℓ} : {P : Type ℓ} (k : ℕ) → INPUT ≤ k → k ≤ XOR
-    → (k ≡ INPUT → P) → (k ≡ REGISTER → P) → (k ≡ NOT → P) → (k ≡ AND → P) → (k ≡ OR → P) → (k ≡ XOR → P) → P
-kinds zero l m i r n a o x = absurd (omega arith)
-kinds (suc zero) l m i r n a o x = i refl
-kinds (suc (suc zero)) l m i r n a o x = r refl
-kinds (suc (suc (suc zero))) l m i r n a o x = n refl
-kinds (suc (suc (suc (suc zero)))) l m i r n a o x = a refl
-kinds (suc (suc (suc (suc (suc zero))))) l m i r n a o x = o refl
-kinds (suc (suc (suc (suc (suc (suc zero)))))) l m i r n a o x = x refl
-kinds (suc (suc (suc (suc (suc (suc (suc k))))))) l m i r n a o x = absurd (omega arith)
+kinds {ℓ} : {P : Type ℓ} (k : Kind)
+    → (k ≡ Input → P) → (k ≡ Register → P) → (k ≡ Not → P) → (k ≡ And → P) → (k ≡ Or → P) → (k ≡ Xor → P) → P
+kinds Input i r n a o x = i refl
+kinds Register i r n a o x = r refl
+kinds Not i r n a o x = n refl
+kinds And i r n a o x = a refl
+kinds Or i r n a o x = o refl
+kinds Xor i r n a o x = x refl
 
-pub by_kind {ℓ} : {P : Type ℓ} (i : ℕ) (x : Signal) → Right i x
-    → (x.kind ≡ INPUT → P)
-    → (x.kind ≡ REGISTER → P)
-    → (x.kind ≡ NOT → P)
-    → (x.kind ≡ AND → P)
-    → (x.kind ≡ OR → P)
-    → (x.kind ≡ XOR → P)
+-- each has a number of its own
+kind_at : ℕ → Kind
+kind_at n =
+    if eqb n INPUT then Input else if eqb n REGISTER then Register else if eqb n NOT then Not else if eqb n AND then And else if eqb n OR then Or else Xor
+
+number_back : (k : Kind) → kind_at (number_of_kind k) ≡ k
+unfolding kind_at
+number_back Input = refl
+number_back Register = refl
+number_back Not = refl
+number_back And = refl
+number_back Or = refl
+number_back Xor = refl
+
+pub number_same : (j k : Kind) → number_of_kind j ≡ number_of_kind k → j ≡ k
+number_same j k e = sym (number_back j) ∙ ap kind_at e ∙ number_back k
+
+pub number_most : (k : Kind) → number_of_kind k ≤ XOR
+number_most Input = omega arith
+number_most Register = omega arith
+number_most Not = omega arith
+number_most And = omega arith
+number_most Or = omega arith
+number_most Xor = omega arith
+
+pub by_kind {ℓ} : {P : Type ℓ} (x : Signal)
+    → (x.kind ≡ Input → P)
+    → (x.kind ≡ Register → P)
+    → (x.kind ≡ Not → P)
+    → (x.kind ≡ And → P)
+    → (x.kind ≡ Or → P)
+    → (x.kind ≡ Xor → P)
     → P
-by_kind i x r = kinds x.kind r.least r.most
+by_kind x = kinds x.kind
 
 module _ (x : Signal) where
-  pub signal_input : x.kind ≡ INPUT → signal_of x ≡ paper.input x.a
+  pub signal_input : x.kind ≡ Input → signal_of x ≡ paper.input x.a
   unfolding signal_of paper.signal_of
   signal_input e = rw e
 
-  pub signal_register : x.kind ≡ REGISTER → signal_of x ≡ paper.register (eqb x.a 1) x.b
+  pub signal_register : x.kind ≡ Register → signal_of x ≡ paper.register (eqb x.a 1) x.b
   unfolding signal_of paper.signal_of
   signal_register e = rw e
 
-  pub signal_inverter : x.kind ≡ NOT → signal_of x ≡ paper.inverter x.a
+  pub signal_inverter : x.kind ≡ Not → signal_of x ≡ paper.inverter x.a
   unfolding signal_of paper.signal_of
   signal_inverter e = rw e
 
-  pub signal_and : x.kind ≡ AND → signal_of x ≡ paper.gate paper.and x.a x.b
+  pub signal_and : x.kind ≡ And → signal_of x ≡ paper.gate paper.and x.a x.b
   unfolding signal_of paper.signal_of
   signal_and e = rw e
 
-  pub signal_or : x.kind ≡ OR → signal_of x ≡ paper.gate paper.or x.a x.b
+  pub signal_or : x.kind ≡ Or → signal_of x ≡ paper.gate paper.or x.a x.b
   unfolding signal_of paper.signal_of
   signal_or e = rw e
 
-  pub signal_xor : x.kind ≡ XOR → signal_of x ≡ paper.gate paper.xor x.a x.b
+  pub signal_xor : x.kind ≡ Xor → signal_of x ≡ paper.gate paper.xor x.a x.b
   unfolding signal_of paper.signal_of
   signal_xor e = rw e
 
 -- ## The record that defines a signal
 
+kind_of : paper.Gate → Kind
+kind_of paper.and = And
+kind_of paper.or = Or
+kind_of paper.xor = Xor
+
 unfoldable record_of : paper.Signal → Signal
-record_of (paper.input p) = record { kind = INPUT; a = p; b = 0 }
-record_of (paper.register i s) = record { kind = REGISTER; a = if i then 1 else 0; b = s }
-record_of (paper.inverter a) = record { kind = NOT; a = a; b = 0 }
-record_of (paper.gate g a b) = record { kind = paper.gate_kind g; a = a; b = b }
+record_of (paper.input p) = record { kind = Input; a = p; b = 0 }
+record_of (paper.register i s) = record { kind = Register; a = if i then 1 else 0; b = s }
+record_of (paper.inverter a) = record { kind = Not; a = a; b = 0 }
+record_of (paper.gate g a b) = record { kind = kind_of g; a = a; b = b }
 
 -- an initial value is its own bit
 pub bit_own : (n : ℕ) → n ≤ 1 → (if eqb n 1 then 1 else 0) ≡ n
@@ -71,19 +101,19 @@ bit_own zero h = refl
 bit_own (suc zero) h = refl
 bit_own (suc (suc n)) h = absurd (omega arith)
 
-signal_made : (x : Signal) {k a b : ℕ} → x.kind ≡ k → x.a ≡ a → x.b ≡ b → record { kind = k; a = a; b = b } ≡ x
-signal_made x p q r = rw (← p, ← q, ← r)
+record_kind : (k : Kind) (a b : ℕ) → (k ≡ Input → b ≡ 0) → (k ≡ Register → a ≤ 1) → (k ≡ Not → b ≡ 0)
+    → record_of (paper.signal_of (number_of_kind k) a b) ≡ record { kind = k; a = a; b = b }
+unfolding record_of kind_of paper.signal_of
+record_kind Input a b i r n = rw (i refl)
+record_kind Register a b i r n = rw (bit_own a (r refl))
+record_kind Not a b i r n = rw (n refl)
+record_kind And a b i r n = refl
+record_kind Or a b i r n = refl
+record_kind Xor a b i r n = refl
 
 record_signal : (i : ℕ) (x : Signal) → Right i x → record_of (signal_of x) ≡ x
-unfolding record_of paper.gate_kind
-record_signal i x r =
-    by_kind i x r
-    (λ e. ap record_of (signal_input x e) ∙ signal_made x e refl (r.input e))
-    (λ e. ap record_of (signal_register x e) ∙ signal_made x e (sym (bit_own x.a (r.initial e))) refl)
-    (λ e. ap record_of (signal_inverter x e) ∙ signal_made x e refl (r.inverter e))
-    (λ e. ap record_of (signal_and x e) ∙ signal_made x e refl refl)
-    (λ e. ap record_of (signal_or x e) ∙ signal_made x e refl refl)
-    (λ e. ap record_of (signal_xor x e) ∙ signal_made x e refl refl)
+unfolding signal_of
+record_signal i x r = record_kind x.kind x.a x.b r.input r.initial r.inverter
 
 pub right_same : (i j : ℕ) (x y : Signal) → Right i x → Right j y → signal_of x ≡ signal_of y → x ≡ y
 right_same i j x y r s e = sym (record_signal i x r) ∙ ap record_of e ∙ record_signal j y s

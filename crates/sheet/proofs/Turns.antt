@@ -4,26 +4,28 @@ use mathlib.Core.List.{List, [], ◌∷◌}
 use Prim.Native.Nat.{ℕ, zero, suc, ◌+◌, ◌-◌, ◌≤◌, ◌<◌}
 use native.Mathlib.Omega.{arith}
 use lib.ListN.{length, get_or, take, drop, length-drop, drop_of_length-le}
-use lib.Dec.{eqb}
 use lib.Seq.{drop-drop, take_all}
-use borrow.Author.Tests.{eq-eqb, ne_eqb, eqb-true, eqb-false}
+use borrow.Author.Tests.{eq-eqb, ne_eqb}
 use Rattle.meaning.specs.Numbers.{OUTPUT, END}
+use Rattle.std.specs.Prelude.{Result, Ok, Err, MatchResult, IsErrAnd}
 use Rattle.meaning.specs.Sheet as paper
-use Rattle.answer.specs.Meant.{refusal_of}
+use Rattle.answer.specs.Meant.{refusal_of, read_by}
 use Rattle.answer.specs.declared.Refusal.{Refusal}
 use Rattle.answer.specs.declared.Refusal.TheVariants.{Short}
-use Rattle.laws.proofs.Basic.{case_bool}
+use Rattle.answer.specs.declared.Fault.{Fault}
+use Rattle.sheet.specs.declared.kind.Kind.{Kind}
+use Rattle.sheet.specs.declared.kind.Kind.TheVariants.{Input, Register, Not, And, Or, Xor}
+use Rattle.sheet.specs.declared.Signal.{Signal}
 use Rattle.sheet.specs.declared.Sheet.{Sheet}
-use Rattle.sheet.specs.declared.Reading.{Reading}
-use Rattle.sheet.specs.declared.Reading.TheVariants.{Good, Refused}
 use Rattle.sheet.specs.declared.record.Record.{Record}
-use Rattle.sheet.specs.declared.record.Record.TheVariants.{Sound, Faulty}
+use Rattle.sheet.specs.declared.record.Record.TheVariants as says
+use Rattle.sheet.specs.declared.record.Record.TheVariants.{End}
 use Rattle.sheet.specs.declared.reader.Part.{Part}
-use Rattle.sheet.specs.Stored.{sheet_of}
-use Rattle.sheet.specs.Reading.{read_of, Beside, Reads}
-use Rattle.sheet.specs.Record.{second_of, fault_is, Fits, Said, Judged}
-use Rattle.sheet.specs.Part.{names_of, empty_part, KeptPart, part_is, Added, fault_reading, refused_found, Ended}
-use Rattle.sheet.proofs.Right.{by_kind}
+use Rattle.sheet.specs.Stored.{number_of_kind}
+use Rattle.sheet.specs.Reading.{Reads}
+use Rattle.sheet.specs.Record.{number_of_record, second_of, fault_is, kind_of, length_of, Says, CanAdd, Said, Judged}
+use Rattle.sheet.specs.Part.{names_of, empty_part, KeptPart, part_is, with_record, Added, Ended}
+use Rattle.sheet.proofs.Mapped.{mapped_ok}
 use Rattle.sheet.proofs.Added.{part_empty, nothing_yet}
 
 -- ## One record of the paper's reading
@@ -61,19 +63,44 @@ module _ (at : ℕ) (p : paper.Part) where
       ∙ ap (λ (i : ℕ). paper.read_from (drop (paper.body_of k) rest) 0 i (paper.add p at k (get_or rest 0 0) (get_or rest 1 0))) (omega arith))
 
 -- the byte after a body of one does not matter
-add_second : (s : Sheet) (p : paper.Part) (at k a b c : ℕ) → Fits s k a c → paper.add p at k a (second_of k b) ≡ paper.add p at k a b
+add_second : (p : paper.Part) (at : ℕ) (k : Kind) (a b : ℕ)
+    → paper.add p at (number_of_kind k) a (second_of (number_of_kind k) b) ≡ paper.add p at (number_of_kind k) a b
 unfolding paper.add paper.signal_of second_of paper.body_of
-add_second s p at k a b c f =
-    case_bool (eqb k OUTPUT)
-    (λ t. rw (eqb-true k OUTPUT t))
-    (λ t.
-    by_kind s.signals (record { kind = k; a = a; b = c }) (f.right (eqb-false k OUTPUT t))
-    (λ e. rw e)
-    (λ e. rw e)
-    (λ e. rw e)
-    (λ e. rw e)
-    (λ e. rw e)
-    (λ e. rw e))
+add_second p at Input a b = refl
+add_second p at Register a b = refl
+add_second p at Not a b = refl
+add_second p at And a b = refl
+add_second p at Or a b = refl
+add_second p at Xor a b = refl
+
+-- what the bytes of a record say
+byte_of : (rest : List ℕ) (x : Record) → Says rest x → get_or rest 0 0 ≡ number_of_record (kind_of x)
+byte_of rest (says.Signal x) h = sym h.0
+byte_of rest (says.Output o) h = sym h.0
+byte_of rest End h = sym h
+
+no_end : (k : Kind) → number_of_kind k ≡ END → ⊥
+no_end Input e = omega arith
+no_end Register e = omega arith
+no_end Not e = omega arith
+no_end And e = omega arith
+no_end Or e = omega arith
+no_end Xor e = omega arith
+
+end_of : (rest : List ℕ) (x : Record) → Says rest x → get_or rest 0 0 ≡ END → x ≡ End
+end_of rest (says.Signal x) h e = absurd (no_end x.kind (h.0 ∙ e))
+end_of rest (says.Output o) h e = let q : OUTPUT ≡ END = h.0 ∙ e in absurd (omega arith)
+end_of rest End h e = refl
+
+added : (rest : List ℕ) (x : Record) (p : paper.Part) (at : ℕ) → Says rest x → (x ≡ End → ⊥)
+    → paper.add p at (get_or rest 0 0) (get_or rest 1 0) (get_or rest 2 0) ≡ with_record p at x
+added rest (says.Signal x) p at h n =
+    rw (← h.0) (
+    sym (add_second p at x.kind (get_or rest 1 0) (get_or rest 2 0))
+    ∙ ap (λ (y : Signal). paper.add p at (number_of_kind x.kind) y.a y.b) (sym h.1)
+    )
+added rest (says.Output o) p at h n = rw (← h.0, h.1, h.2)
+added rest End p at h n = absurd (n refl)
 
 -- ## Turns
 
@@ -90,18 +117,17 @@ turn_start file p e = rw e (record {
   same = ap (paper.read_from file 0 0) (sym nothing_yet);
 })
 
--- a refusal, with the empty sheet beside it
-refused_reads : (file : List ℕ) (f : Refusal) (at : ℕ) → paper.refused (refusal_of f) at ≡ paper.reading_of_sheet file → Reads file (refused_found (Refused f at))
-unfolding read_of Beside
-refused_reads file f at e = record { is = e; sheet = refl }
+faulty_reads : (file : List ℕ) (e : Fault) → paper.refused (refusal_of e.refusal) e.at ≡ paper.reading_of_sheet file → Reads file (Err e)
+unfolding read_by
+faulty_reads file e q = record { is = q; whole = λ s z. cc }
 
-pub turn_short : (file : List ℕ) (p : Part) (at : ℕ) → Turn file p at → length file ≤ at → Reads file (refused_found (Refused Short at))
+pub turn_short : (file : List ℕ) (p : Part) (at : ℕ) → Turn file p at → length file ≤ at → Reads file (Err (record { refusal = Short; at = at }))
 unfolding paper.read_from refusal_of
 turn_short file p at t h =
-    refused_reads file Short at (sym (ap (λ (l : List ℕ). paper.read_from l 0 at (part_is p)) (drop_of_length-le file h)) ∙ t.same)
+    faulty_reads file (record { refusal = Short; at = at }) (sym (ap (λ (l : List ℕ). paper.read_from l 0 at (part_is p)) (drop_of_length-le file h)) ∙ t.same)
 
 -- the record at the present offset
-pub record Ahead (file : List ℕ) (p : Part) (at : ℕ) (r : Record) : Type 0 where
+pub record Ahead (file : List ℕ) (p : Part) (at : ℕ) (r : Result Record Refusal) : Type 0 where
   pub turn : Turn file p at
   pub inside : at < length file
   pub judged : Judged (drop at file) p.sheet r
@@ -110,72 +136,65 @@ pub record Ahead (file : List ℕ) (p : Part) (at : ℕ) (r : Record) : Type 0 w
 pub rest_from : (file : List ℕ) (at : ℕ) → take (length file - at) (drop at file) ≡ drop at file
 rest_from file at = take_all (length file - at) (drop at file) (omega (arith, length-drop at file))
 
-pub ahead : {file : List ℕ} {p : Part} {at : ℕ} {r : Record} → Turn file p at → at < length file
+pub ahead : {file : List ℕ} {p : Part} {at : ℕ} {r : Result Record Refusal} → Turn file p at → at < length file
     → Judged (take (length file - at) (drop at file)) p.sheet r → Ahead file p at r
 ahead {file} {p} {at} {r} turn inside judged = record { turn = turn; inside = inside; judged = rw (rest_from file at) at judged }
 
-module _ {file : List ℕ} {p : Part} {at : ℕ} {r : Record} (h : Ahead file p at r) where
-  some : 0 < length (drop at file)
-  some = omega (arith, length-drop at file, h.inside)
+-- one that is sound, after what the closure makes of a fault
+pub ahead_sound : {file : List ℕ} {p : Part} {at : ℕ} {D : Type 0} (P : Refusal → D → Type 0) {r : Result Record Refusal} {s : Result Record D} {x : Record}
+    → Turn file p at → at < length file → Judged (take (length file - at) (drop at file)) p.sheet r
+    → MatchResult r (λ y. s ≡ Ok y) (λ e. IsErrAnd s (P e)) → s ≡ Ok x → Ahead file p at (Ok x)
+ahead_sound P {r} {s} {x} turn inside judged m q = ahead turn inside (rw (mapped_ok P r s x m q) at judged)
 
-  judged : fault_is r ≡ paper.fault_of (part_is p) (get_or (drop at file) 0 0) (drop 1 (drop at file))
-  unfolding part_is
-  judged = h.judged.fault (names_of p)
+module _ {file : List ℕ} {p : Part} {at : ℕ} where
+  module _ {r : Result Record Refusal} (h : Ahead file p at r) where
+    some : 0 < length (drop at file)
+    some = omega (arith, length-drop at file, h.inside)
 
-  pub turn_refused : {f : Refusal} → r ≡ Faulty f → Reads file (refused_found (fault_reading r at))
-  unfolding fault_is fault_reading
-  turn_refused {f} e =
-      rw e (refused_reads file f at (sym (read_fault at (part_is p) (drop at file) some (rw e at judged)) ∙ h.turn.same))
+    judged : fault_is r ≡ paper.fault_of (part_is p) (get_or (drop at file) 0 0) (drop 1 (drop at file))
+    unfolding part_is
+    judged = h.judged.fault (names_of p)
 
-  module _ {k a b : ℕ} (e : r ≡ Sound k a b) where
-    said : Said (drop at file) p.sheet k a b
-    said = h.judged.said k a b e
+  pub turn_faulty : {f : Refusal} → Ahead file p at (Err f) → Reads file (Err (record { refusal = f; at = at }))
+  unfolding fault_is
+  turn_faulty {f} h =
+      faulty_reads file (record { refusal = f; at = at }) (sym (read_fault at (part_is p) (drop at file) (some h) (judged h)) ∙ h.turn.same)
+
+  module _ {x : Record} (h : Ahead file p at (Ok x)) where
+    said : Said (drop at file) p.sheet x
+    said = h.judged.said x refl
 
     sound : paper.sound ≡ paper.fault_of (part_is p) (get_or (drop at file) 0 0) (drop 1 (drop at file))
     unfolding fault_is
-    sound = rw e at judged
+    sound = judged h
 
-    -- ## END
+    byte_is : get_or (drop at file) 0 0 ≡ number_of_record (kind_of x)
+    byte_is = byte_of (drop at file) x said.says
 
-    module _ (q : k ≡ END) {d : Reading} (n : Ended p at (length file) d) where
-      ended_is : read_of d (sheet_of p.sheet) ≡ paper.reading_of_sheet file
-      ended_is =
-          n.is (drop 1 (drop at file)) (omega (arith, length-drop 1 (drop at file), length-drop at file))
-          ∙ sym (read_end at (part_is p) (drop at file) some sound (sym said.kind ∙ q))
-          ∙ h.turn.same
+    pub turn_inside : at + length_of x ≤ length file
+    turn_inside = omega (arith, rw byte_is at said.whole, length-drop at file)
 
-      pub turn_good : d ≡ Good → Reads file (record { sheet = p.sheet; reading = d })
-      unfolding Beside
-      turn_good g = record { is = ended_is; sheet = rw g (n.whole g) }
+    pub turn_fits : CanAdd p.sheet x
+    turn_fits = said.fits
 
-      pub turn_ended : {f : Refusal} {i : ℕ} → d ≡ Refused f i → Reads file (refused_found d)
-      unfolding read_of
-      turn_ended {f} {i} g = rw g (refused_reads file f i (rw g at ended_is))
+    -- a record that is added
+    pub turn_more : {q : Part} {m : ℕ} → (x ≡ End → ⊥) → Added p at x q → m ≡ length_of x → Turn file q (at + m)
+    turn_more n w e =
+        let step = read_more at (part_is p) (drop at file) (some h) sound (λ q. n (end_of (drop at file) x said.says q)) said.whole in
+        let place : at + suc (paper.body_of (number_of_record (kind_of x))) ≡ at + length_of x = omega arith in
+        let place' : at + 1 + paper.body_of (number_of_record (kind_of x)) ≡ at + length_of x = omega arith in
+        rw e (record {
+          kept = w.kept;
+          within = turn_inside;
+          same = rw w.is (sym (rw (added (drop at file) x (part_is p) at said.says n, byte_is, drop-drop, place, place') at step) ∙ h.turn.same);
+        })
 
-    -- ## A record that is added
-
-    module _ (n : k ≡ END → ⊥) where
-      pub turn_fits : Fits p.sheet k a b
-      turn_fits = said.fits n
-
-      pub turn_inside : at + 1 + paper.body_of k ≤ length file
-      turn_inside = omega (arith, said.whole, length-drop at file)
-
-      added_is : paper.add (part_is p) at k a (get_or (drop at file) 2 0) ≡ paper.add (part_is p) at k a b
-      added_is =
-          sym (add_second p.sheet (part_is p) at k a (get_or (drop at file) 2 0) b turn_fits)
-          ∙ ap (paper.add (part_is p) at k a) (sym said.second)
-
-      next_is : paper.read_from (drop (at + 1 + paper.body_of k) file) 0 (at + 1 + paper.body_of k) (paper.add (part_is p) at k a b) ≡ paper.reading_of_sheet file
-      next_is =
-          let whole : paper.body_of (get_or (drop at file) 0 0) < length (drop at file) = rw said.kind at said.whole in
-          let step = read_more at (part_is p) (drop at file) some sound (λ q. n (said.kind ∙ q)) whole in
-          let place : at + suc (paper.body_of k) ≡ at + 1 + paper.body_of k = omega arith in
-          sym (rw (← said.kind, ← said.first, added_is, drop-drop, place) at step) ∙ h.turn.same
-
-      pub turn_more : {q : Part} {m : ℕ} → Added p at k a b q → m ≡ paper.body_of k → Turn file q (at + 1 + m)
-      turn_more w e = record {
-        kept = w.kept;
-        within = omega (arith, turn_inside);
-        same = rw (e, w.is) next_is;
-      }
+  module _ (h : Ahead file p at (Ok End)) where
+    pub turn_ended : {d : Result Sheet Fault} → Ended p at (length file) d → Reads file d
+    turn_ended n = record {
+      is =
+          n.is (drop 1 (drop at file)) (omega (arith, length-drop 1 (drop at file), length-drop at file, h.inside))
+          ∙ sym (read_end at (part_is p) (drop at file) (some h) (sound h) (sym (said h).says))
+          ∙ h.turn.same;
+      whole = n.whole;
+    }

@@ -1,68 +1,42 @@
-// Sheets: the type with its limits, and what reading one gives.
+// Sheets: the type with its limits.
 #![tactic(auto)]
 
 ghost use Rattle.std.specs.Prelude.{◌≡◌};
 ghost use Rattle.sheet.specs.Stored.{empty_sheet};
-ghost use Rattle.sheet.specs.Reading.{refusal_in};
 
 pub mod kind;
 mod reader;
 mod record;
 mod writer;
 
-use answer::{Answer, File, Refusal};
+use arrayvec::ArrayVec;
+pub use kind::Kind;
 pub use reader::read_sheet;
 pub use writer::write;
 
-// The record that all parts share: the kind and the body of a signal's record; b is 0 where the body has one byte.
-#[derive(Clone, Copy)]
+// The record that all parts share: the kind and the body of a signal's record; b is 0 where the body has one byte. One struct for all kinds,
+// a form that the yard asked for by name, and no enum with the values of each: `signal_of` and `Right` hold what each kind reads.
+#[derive(Clone, Copy, Debug, PartialEq, Eq, Default)]
 pub struct Signal {
-    pub kind: u8,
+    pub kind: Kind,
     pub a: u8,
     pub b: u8,
 }
 
-#[derive(Clone, Copy)]
+#[derive(Clone, Copy, Debug, PartialEq, Eq, Default)]
 pub struct Output {
     pub pin: u8,
     pub signal: u8,
 }
 
-// The first places of the arrays are used, as many as the counts say; the other places hold zeros.
-#[derive(Clone, Copy)]
+// The signals and the outputs, in file order, and how many of the signals are inputs and registers. An ArrayVec takes no heap.
+// That a sheet is whole stays a clause: what was read of a file so far is stored in one too.
+#[derive(Drop)]
 pub struct Sheet {
-    pub signal: [Signal; Sheet::SIGNALS],
-    pub output: [Output; Sheet::OUTPUTS],
-    pub signals: usize,
+    pub signals: ArrayVec<Signal, { Sheet::SIGNALS }>,
+    pub outputs: ArrayVec<Output, { Sheet::OUTPUTS }>,
     pub inputs: usize,
     pub registers: usize,
-    pub outputs: usize,
-}
-
-// Whether a file says a sheet; else the refusal and its position.
-#[derive(Clone, Copy)]
-pub enum Reading {
-    Good,
-    Refused(Refusal, usize),
-}
-
-// An enum cannot hold an array, so the sheet stands beside its reading. It is the empty one where the file is refused.
-#[derive(Clone, Copy)]
-pub struct Found {
-    pub sheet: Sheet,
-    pub reading: Reading,
-}
-
-impl Reading {
-    // The answer of a call that a refused file ends. A good reading ends none.
-    pub fn refusal(self, file: File) -> Answer
-        ensures { result ≡ refusal_in self file }
-    {
-        match self {
-            Reading::Good => Answer::Wrote(0),
-            Reading::Refused(k, at) => Answer::Refused(k, file, at),
-        }
-    }
 }
 
 impl Sheet {
@@ -85,19 +59,11 @@ impl Sheet {
     pub fn empty() -> Self
         ensures { result ≡ empty_sheet }
     {
-        let signal = Signal {
-            kind: 0,
-            a: 0,
-            b: 0,
-        };
-        let output = Output { pin: 0, signal: 0 };
         Self {
-            signal: [signal; Sheet::SIGNALS],
-            output: [output; Sheet::OUTPUTS],
-            signals: 0,
+            signals: ArrayVec::new(),
+            outputs: ArrayVec::new(),
             inputs: 0,
             registers: 0,
-            outputs: 0,
         }
     }
 }

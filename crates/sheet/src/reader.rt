@@ -1,60 +1,49 @@
 // The sheet reader.
 ghost use Rattle.std.specs.Prelude.{◌≡◌, ◌<◌, ◌≤◌};
-ghost use Rattle.meaning.specs.Numbers.{max_signals, max_outputs};
-ghost use Rattle.sheet.specs.Stored.{Kept};
+ghost use Rattle.arrayvec.specs.ArrayVec.{array_vec_len};
+ghost use Rattle.meaning.specs.Numbers.{max_inputs, max_registers, max_signals, max_outputs};
 ghost use Rattle.sheet.specs.Reading.{Reads};
-ghost use Rattle.sheet.specs.Record.{Fits};
-ghost use Rattle.sheet.specs.Part.{count_of, sheet_with_signal, sheet_with_output, part_with_name, part_with_sheet, empty_part, max_names, KeptPart, Added, fault_reading, refused_found, Named, Ended};
+ghost use Rattle.sheet.specs.Record.{CanAdd};
+ghost use Rattle.sheet.specs.Part.{sheet_with_signal, sheet_with_output, part_with_name, empty_part, max_names, KeptPart, Added, Ended};
 
-use crate::record::{Record, body, one_record};
-use crate::{Found, Output, Reading, Sheet, Signal, kind};
-use answer::Refusal;
+use crate::record::{Record, one_record};
+use crate::{Kind, Output, Sheet, Signal};
+use answer::{Fault, Refusal};
+use arrayvec::ArrayVec;
 
 // A REGISTER or OUTPUT record: its offset, and the signal that it names.
-#[derive(Clone, Copy)]
+#[derive(Clone, Copy, Default)]
 struct Name {
     at: usize,
     signal: u8,
 }
 
 // What has been read so far: the sheet, and the records that name a signal, in file order.
-#[derive(Clone, Copy)]
+#[derive(Drop)]
 struct Part {
     sheet: Sheet,
-    naming: [Name; Sheet::NAMES],
-    names: usize,
-}
-
-// One, if a record is of the kind that is counted.
-fn count(kind: u8, of: u8) -> usize
-    ensures { (result ≡ count_of kind of) × (result ≤ 1) }
-{
-    if kind == of { 1 } else { 0 }
+    naming: ArrayVec<Name, { Sheet::NAMES }>,
 }
 
 impl Sheet {
-    fn with_signal(mut self, kind: u8, a: u8, b: u8) -> Self
-        requires { Kept self × (self.signals < max_signals) }
-        ensures { result ≡ sheet_with_signal self kind a b }
+    fn push_signal(&mut self, x: Signal)
+        requires { (array_vec_len self.old.signals < max_signals) × (self.old.inputs ≤ max_inputs) × (self.old.registers ≤ max_registers) }
+        ensures { self.new ≡ sheet_with_signal self.old x }
     {
-        let n = self.signals;
-        self.signal[n] = Signal { kind, a, b };
-        self.signals = n + 1;
-        let i = count(kind, kind::INPUT);
-        self.inputs = self.inputs + i;
-        let r = count(kind, kind::REGISTER);
-        self.registers = self.registers + r;
-        self
+        self.signals.push(x);
+        match x.kind {
+            Kind::Input => self.inputs += 1,
+            Kind::Register => self.registers += 1,
+            Kind::Not | Kind::And | Kind::Or | Kind::Xor => (),
+        }
     }
 
-    fn with_output(mut self, pin: u8, signal: u8) -> Self
-        requires { Kept self × (self.outputs < max_outputs) }
-        ensures { result ≡ sheet_with_output self pin signal }
+    // Not one with push_signal: it fills another field, and counts no kinds.
+    fn push_output(&mut self, o: Output)
+        requires { array_vec_len self.old.outputs < max_outputs }
+        ensures { self.new ≡ sheet_with_output self.old o }
     {
-        let n = self.outputs;
-        self.output[n] = Output { pin, signal };
-        self.outputs = n + 1;
-        self
+        self.outputs.push(o);
     }
 }
 
@@ -62,131 +51,87 @@ impl Part {
     fn empty() -> Self
         ensures { result ≡ empty_part }
     {
-        let sheet = Sheet::empty();
-        let name = Name { at: 0, signal: 0 };
         Self {
-            sheet,
-            naming: [name; Sheet::NAMES],
-            names: 0,
+            sheet: Sheet::empty(),
+            naming: ArrayVec::new(),
         }
     }
 
-    // One more record, which can name no later signal.
-    fn with_sheet(mut self, sheet: Sheet) -> Self
-        ensures { result ≡ part_with_sheet self sheet }
+    // A record at this offset names a signal, which may be a later one.
+    fn push_name(&mut self, at: usize, signal: u8)
+        requires { array_vec_len self.old.naming < max_names }
+        ensures { self.new ≡ part_with_name self.old self.old.sheet at signal }
     {
-        self.sheet = sheet;
-        self
+        self.naming.push(Name { at, signal });
     }
 
-    // One more record, which names a signal that may be a later one.
-    fn with_name(mut self, sheet: Sheet, at: usize, signal: u8) -> Self
-        requires { KeptPart self × (self.names < max_names) }
-        ensures { result ≡ part_with_name self sheet at signal }
+    // One more record, read at this offset.
+    fn add(&mut self, at: usize, next: Record)
+        requires { KeptPart self.old × CanAdd self.old.sheet next }
+        ensures { Added self.old at next self.new }
     {
-        let n = self.names;
-        self.naming[n] = Name { at, signal };
-        self.names = n + 1;
-        self.sheet = sheet;
-        self
+        match next {
+            Record::Signal(x) => {
+                self.sheet.push_signal(x);
+                if x.kind == Kind::Register {
+                    self.push_name(at, x.b);
+                }
+            }
+            Record::Output(o) => {
+                self.sheet.push_output(o);
+                self.push_name(at, o.signal);
+            }
+            Record::End => (),
+        }
     }
 
-    // One more sound record that is not END, read at an offset.
-    fn add(self, at: usize, kind: u8, a: u8, b: u8) -> Self
-        requires { KeptPart self × Fits self.sheet kind a b }
-        ensures { Added self at kind a b result }
+    // END at an offset of a file of so many bytes: AFTER, NO OUTPUT, DANGLING.
+    fn ended(self, at: usize, length: usize) -> Result<Sheet, Fault>
+        requires { KeptPart self × (at < length) }
+        ensures { Ended self at length result }
     {
-        let s = self.sheet;
-        if kind == kind::OUTPUT {
-            let t = s.with_output(a, b);
-            return self.with_name(t, at, b);
+        let after = at + 1;
+        if after < length {
+            return Err(Fault {
+                refusal: Refusal::After,
+                at: after,
+            });
         }
-        let t = s.with_signal(kind, a, b);
-        if kind == kind::REGISTER {
-            return self.with_name(t, at, b);
+        if self.sheet.outputs.is_empty() {
+            return Err(Fault {
+                refusal: Refusal::NoOutput,
+                at,
+            });
         }
-        self.with_sheet(t)
-    }
-}
-
-// DANGLING: the first record that names no signal of the sheet.
-fn dangling(p: Part) -> Reading
-    requires { KeptPart p }
-    ensures { Named p result }
-{
-    let s = p.sheet;
-    let n = s.signals;
-    let names = p.names;
-    let mut i = 0;
-    while i < names {
-        let x = p.naming[i];
-        if n <= x.signal as usize {
-            return Reading::Refused(Refusal::Dangling, x.at);
+        for name in self.naming.iter() {
+            if self.sheet.signals.len() <= usize::from(name.signal) {
+                return Err(Fault {
+                    refusal: Refusal::Dangling,
+                    at: name.at,
+                });
+            }
         }
-        i += 1;
-    }
-    Reading::Good
-}
-
-// END at an offset of a file of so many bytes: AFTER, NO OUTPUT, DANGLING.
-fn ending(p: Part, at: usize, length: usize) -> Reading
-    requires { KeptPart p × (at < length) }
-    ensures { Ended p at length result }
-{
-    let s = p.sheet;
-    let outputs = s.outputs;
-    let after = at + 1;
-    if after < length {
-        return Reading::Refused(Refusal::After, after);
-    }
-    if outputs == 0 {
-        return Reading::Refused(Refusal::NoOutput, at);
-    }
-    dangling(p)
-}
-
-// A faulty record ends the reading at its offset.
-fn faulty(r: Record, at: usize) -> Reading
-    ensures { result ≡ fault_reading r at }
-{
-    match r {
-        Record::Sound(_, _, _) => Reading::Good,
-        Record::Faulty(k) => Reading::Refused(k, at),
+        Ok(self.sheet)
     }
 }
 
-// What is found in a refused file.
-fn refused(reading: Reading) -> Found
-    ensures { result ≡ refused_found reading }
-{
-    let sheet = Sheet::empty();
-    Found { sheet, reading }
-}
-
-// The sheet that a file says, or the file's refusal and its position.
-pub fn read_sheet(file: &[u8]) -> Found
+// The sheet that a file says, or what is wrong with the file and where.
+pub fn read_sheet(file: &[u8]) -> Result<Sheet, Fault>
     ensures { Reads file.now result }
 {
-    let mut p = Part::empty();
+    let mut part = Part::empty();
     let mut at = 0;
+    // A while: the step is a record's length, so no range counts it.
     while at < file.len() {
-        let s = p.sheet;
-        let r = one_record(&file[at..], s);
-        let Record::Sound(kind, a, b) = r else {
-            return refused(faulty(r, at));
-        };
-        if kind == kind::END {
-            let e = ending(p, at, file.len());
-            let Reading::Good = e else {
-                return refused(e);
-            };
-            return Found {
-                sheet: s,
-                reading: e,
-            };
+        let record = one_record(&file[at..], &part.sheet).map_err(|refusal| Fault { refusal, at })?;
+        if let Record::End = record {
+            return part.ended(at, file.len());
         }
-        p = p.add(at, kind, a, b);
-        at = at + 1 + body(kind);
+        part.add(at, record);
+        at += record.len();
     }
-    refused(Reading::Refused(Refusal::Short, at))
+    Err(Fault {
+        refusal: Refusal::Short,
+        at,
+    })
 }

@@ -1,134 +1,186 @@
-// One record of a sheet file: its kind and body, or why it is refused.
-ghost use Rattle.std.specs.Prelude.{◌≡◌, ◌&&◌, [], ◌<◌, length, get_or, eqb, ltb};
+// One record of a sheet file: what it says, or why it is refused.
+ghost use Rattle.std.specs.Prelude.{◌≡◌, ◌&&◌, [], ◌<◌, ◌≤◌, length, get_or, eqb, ltb};
 ghost use Rattle.meaning.specs.Numbers.{REGISTER};
-ghost use Rattle.meaning.specs.Sheet.{kind_is_unknown, body_of, exceeds_limits};
-ghost use Rattle.sheet.specs.Stored.{Kept};
-ghost use Rattle.sheet.specs.Record.{part_of, second_of, late_of, Judged};
+ghost use Rattle.meaning.specs.Sheet.{body_of, exceeds_limits};
+ghost use Rattle.sheet.specs.Stored.{number_of_kind, Kept};
+ghost use Rattle.sheet.specs.Record.{number_of_record, Begins, part_of, full, signal_in, length_of, late_of, Judged};
 
-use crate::{Sheet, kind};
+use crate::{Kind, Output, Sheet, Signal, kind};
 use answer::Refusal;
 
-// Sound: the kind and the body; its second byte is 0 where the body has one.
+// What begins a record.
+#[derive(Clone, Copy)]
+enum RecordKind {
+    Signal(Kind),
+    Output,
+    End,
+}
+
 #[derive(Clone, Copy)]
 pub(crate) enum Record {
-    Sound(u8, u8, u8),
-    Faulty(Refusal),
+    Signal(Signal),
+    Output(Output),
+    End,
+}
+
+impl Record {
+    // How many bytes of a file it takes.
+    #[tactic(auto, unfolding(meaning::specs::Sheet::body_of))]
+    pub(crate) fn len(self) -> usize
+        ensures { result ≡ length_of self }
+    {
+        match self {
+            Record::Signal(x) => 1 + x.kind.body(),
+            Record::Output(_) => 3,
+            Record::End => 1,
+        }
+    }
 }
 
 // KIND: no record of a sheet has this kind.
-fn unknown(kind: u8) -> bool
-    ensures { result ≡ kind_is_unknown kind }
-{
-    if kind < kind::INPUT {
-        return true;
+#[tactic(auto, unfolding(meaning::specs::Sheet::kind_is_unknown))]
+impl TryFrom<u8> for RecordKind {
+    type Error = Refusal;
+
+    ghost try_from_gives = { Begins };
+
+    fn try_from(number: u8) -> Result<Self, Refusal> {
+        match number {
+            kind::INPUT => Ok(RecordKind::Signal(Kind::Input)),
+            kind::REGISTER => Ok(RecordKind::Signal(Kind::Register)),
+            kind::NOT => Ok(RecordKind::Signal(Kind::Not)),
+            kind::AND => Ok(RecordKind::Signal(Kind::And)),
+            kind::OR => Ok(RecordKind::Signal(Kind::Or)),
+            kind::XOR => Ok(RecordKind::Signal(Kind::Xor)),
+            kind::OUTPUT => Ok(RecordKind::Output),
+            kind::END => Ok(RecordKind::End),
+            _ => Err(Refusal::Kind),
+        }
     }
-    kind::END < kind
 }
 
-// The length of a record's body.
-pub(crate) fn body(kind: u8) -> usize
-    ensures { result ≡ body_of kind }
-{
-    if kind == kind::END {
-        return 0;
+impl Kind {
+    // The length of a record's body.
+    #[tactic(auto, unfolding(meaning::specs::Sheet::body_of))]
+    pub(crate) fn body(self) -> usize
+        ensures value { result ≡ body_of (number_of_kind self) }
+        ensures short { result ≤ 2 }
+    {
+        match self {
+            Kind::Input | Kind::Not => 1,
+            Kind::Register | Kind::And | Kind::Or | Kind::Xor => 2,
+        }
     }
-    if kind == kind::INPUT {
-        return 1;
-    }
-    if kind == kind::NOT {
-        return 1;
-    }
-    2
 }
 
-// Byte i of the rest of a file, 0 past its end.
-fn byte(rest: &[u8], i: usize) -> u8
-    ensures { result ≡ get_or rest.now i 0 }
-{
-    if i < rest.len() { rest[i] } else { 0 }
+impl RecordKind {
+    #[tactic(auto, unfolding(meaning::specs::Sheet::body_of))]
+    fn body(self) -> usize
+        ensures { result ≡ body_of (number_of_record self) }
+    {
+        match self {
+            RecordKind::Signal(kind) => kind.body(),
+            RecordKind::Output => 2,
+            RecordKind::End => 0,
+        }
+    }
+
+    // MANY: a record of this kind is one more than the limits allow.
+    fn is_one_too_many(self, s: &Sheet) -> bool
+        requires { Kept s.now }
+        ensures { result ≡ exceeds_limits (part_of s.now []) (number_of_record self) }
+    {
+        match self {
+            RecordKind::Output => s.outputs.is_full(),
+            RecordKind::End => false,
+            RecordKind::Signal(kind) => s.signals.is_full() || s.is_full_of(kind),
+        }
+    }
 }
 
-// The second byte of a body, 0 where the body has one.
-fn second(kind: u8, b: u8) -> u8
-    ensures { result ≡ second_of kind b }
-{
-    if body(kind) == 2 { b } else { 0 }
+impl Sheet {
+    // Inputs and registers have a limit of their own.
+    fn is_full_of(&self, kind: Kind) -> bool
+        ensures { result ≡ full self.now kind }
+    {
+        match kind {
+            Kind::Input => Sheet::INPUTS <= self.inputs,
+            Kind::Register => Sheet::REGISTERS <= self.registers,
+            Kind::Not | Kind::And | Kind::Or | Kind::Xor => false,
+        }
+    }
 }
 
-// MANY: a record of this kind is one more than the limits allow.
-fn too_many(s: Sheet, kind: u8) -> bool
-    requires { Kept s }
-    ensures { result ≡ exceeds_limits (part_of s []) kind }
-{
-    if kind == kind::OUTPUT {
-        return Sheet::OUTPUTS <= s.outputs;
+impl Signal {
+    // What the rest of a file says from a record of this kind on; b is 0 where the body has one byte.
+    #[tactic(auto, unfolding(meaning::specs::Sheet::body_of, crate::specs::Record::second_of))]
+    fn read(kind: Kind, rest: &[u8]) -> Self
+        requires { body_of (number_of_kind kind) < length rest.now }
+        ensures { result ≡ signal_in rest.now kind }
+    {
+        match kind {
+            Kind::Input | Kind::Not => Self {
+                kind,
+                a: rest[1],
+                b: 0,
+            },
+            Kind::Register | Kind::And | Kind::Or | Kind::Xor => Self {
+                kind,
+                a: rest[1],
+                b: rest[2],
+            },
+        }
     }
-    if kind::XOR < kind {
-        return false;
-    }
-    if Sheet::SIGNALS <= s.signals {
-        return true;
-    }
-    if kind == kind::INPUT {
-        return Sheet::INPUTS <= s.inputs;
-    }
-    if kind == kind::REGISTER {
-        return Sheet::REGISTERS <= s.registers;
-    }
-    false
-}
 
-// VALUE: an initial value that is not 0 or 1.
-fn bad_value(kind: u8, a: u8) -> bool
-    ensures { result ≡ (eqb kind REGISTER && ltb 1 a) }
-{
-    if kind == kind::REGISTER {
-        return 1 < a;
+    // VALUE: an initial value that is not 0 or 1.
+    fn has_bad_value(self) -> bool
+        ensures { result ≡ (eqb (number_of_kind self.kind) REGISTER && ltb 1 self.a) }
+    {
+        self.kind == Kind::Register && 1 < self.a
     }
-    false
-}
 
-// LATER: an operand of signal n is not a lower number than its own.
-fn not_lower(n: usize, kind: u8, a: u8, b: u8) -> bool
-    ensures { result ≡ late_of n kind a b }
-{
-    if kind < kind::NOT {
-        return false;
+    // LATER: an operand of signal n is not a lower number than its own.
+    #[tactic(auto, unfolding(crate::specs::Record::late_of))]
+    fn has_later_operand(self, n: usize) -> bool
+        ensures { result ≡ late_of n (number_of_kind self.kind) self.a self.b }
+    {
+        let Signal { kind, a, b } = self;
+        match kind {
+            Kind::Input | Kind::Register => false,
+            Kind::Not => n <= usize::from(a),
+            Kind::And | Kind::Or | Kind::Xor => n <= usize::from(a) || n <= usize::from(b),
+        }
     }
-    if kind::XOR < kind {
-        return false;
-    }
-    if n <= a as usize {
-        return true;
-    }
-    if kind == kind::NOT {
-        return false;
-    }
-    n <= b as usize
 }
 
 // The record at the front of the rest of a file, over the sheet so far: KIND, SHORT, MANY, VALUE, LATER.
-pub(crate) fn one_record(rest: &[u8], s: Sheet) -> Record
-    requires { Kept s × (0 < length rest.now) }
-    ensures { Judged rest.now s result }
+#[tactic(auto, unfolding(meaning::specs::Sheet::body_of))]
+pub(crate) fn one_record(rest: &[u8], s: &Sheet) -> Result<Record, Refusal>
+    requires { Kept s.now × (0 < length rest.now) }
+    ensures { Judged rest.now s.now result }
 {
-    let kind = byte(rest, 0);
-    let a = byte(rest, 1);
-    let b = byte(rest, 2);
-    if unknown(kind) {
-        return Record::Faulty(Refusal::Kind);
+    let kind = RecordKind::try_from(rest[0])?;
+    if rest.len() <= kind.body() {
+        return Err(Refusal::Short);
     }
-    if rest.len() <= body(kind) {
-        return Record::Faulty(Refusal::Short);
+    if kind.is_one_too_many(s) {
+        return Err(Refusal::Many);
     }
-    if too_many(s, kind) {
-        return Record::Faulty(Refusal::Many);
+    match kind {
+        RecordKind::Signal(kind) => {
+            let x = Signal::read(kind, rest);
+            if x.has_bad_value() {
+                return Err(Refusal::Value);
+            }
+            if x.has_later_operand(s.signals.len()) {
+                return Err(Refusal::Later);
+            }
+            Ok(Record::Signal(x))
+        }
+        RecordKind::Output => Ok(Record::Output(Output {
+            pin: rest[1],
+            signal: rest[2],
+        })),
+        RecordKind::End => Ok(Record::End),
     }
-    if bad_value(kind, a) {
-        return Record::Faulty(Refusal::Value);
-    }
-    if not_lower(s.signals, kind, a, b) {
-        return Record::Faulty(Refusal::Later);
-    }
-    Record::Sound(kind, a, second(kind, b))
 }

@@ -1,100 +1,74 @@
 // The sheet writer, as a call on a sheet file.
 ghost use Rattle.std.specs.Prelude.{◌≡◌, ◌+◌, ◌≤◌, ◌++◌, length, drop};
-ghost use Rattle.meaning.specs.Basic.{concat_map};
-ghost use Rattle.meaning.specs.Sheet.{bytes_of_signal, bytes_of_output, bytes_of_sheet};
+ghost use Rattle.meaning.specs.Sheet.{bytes_of_sheet};
 ghost use Rattle.meaning.specs.Answer.{write_answer};
 ghost use Rattle.sheet.specs.Stored.{sheet_of, Whole};
 ghost use Rattle.sheet.specs.Writing.{bytes_of_record, Put, Called};
 
 use crate::reader::read_sheet;
-use crate::record::body;
-use crate::{Reading, Sheet, kind};
-use answer::{Answer, File, Refusal};
+use crate::{Sheet, Signal, kind};
+use answer::{Answer, Done, File, Refusal, Refused};
 
 // How many bytes a sheet takes.
-fn needed(s: Sheet) -> usize
-    requires { Whole s }
-    ensures { result ≡ length (bytes_of_sheet (sheet_of s)) }
+fn needed(s: &Sheet) -> usize
+    requires { Whole s.now }
+    ensures { result ≡ length (bytes_of_sheet (sheet_of s.now)) }
 {
     // an output takes three bytes, and END one
-    let mut n = 3 * s.outputs + 1;
-    let mut i = 0;
-    while i < s.signals {
-        let x = s.signal[i];
-        n = n + 1 + body(x.kind);
-        i += 1;
+    let mut n = 3 * s.outputs.len() + 1;
+    for x in s.signals.iter() {
+        n += 1 + x.kind.body();
     }
     n
 }
 
-// Writes a record at an offset, and gives the offset after it.
-fn put_record(res: &mut [u8], at: usize, kind: u8, a: u8, b: u8) -> usize
-    requires { at + length (bytes_of_record kind a b) ≤ length res.old }
-    ensures { Put res.old at (bytes_of_record kind a b) res.new result }
+// Puts bytes at an offset, and gives the offset after them.
+fn put(res: &mut [u8], at: usize, bytes: &[u8]) -> usize
+    requires { at + length bytes.now ≤ length res.old }
+    ensures { Put res.old at bytes.now res.new result }
 {
-    res[at] = kind;
-    res[at + 1] = a;
-    if body(kind) == 1 {
-        return at + 2;
-    }
-    res[at + 2] = b;
-    at + 3
+    let end = at + bytes.len();
+    res[at..end].copy_from_slice(bytes);
+    end
 }
 
-// Writes the signals at the beginning, and gives the offset after them.
-fn put_signals(s: Sheet, res: &mut [u8]) -> usize
-    requires { Whole s × (length (bytes_of_sheet (sheet_of s)) ≤ length res.old) }
-    ensures { Put res.old 0 (concat_map bytes_of_signal (sheet_of s).signals) res.new result }
+// Puts a signal's record.
+fn put_signal(res: &mut [u8], at: usize, x: Signal) -> usize
+    requires { at + length (bytes_of_record x) ≤ length res.old }
+    ensures { Put res.old at (bytes_of_record x) res.new result }
+{
+    let bytes = [u8::from(x.kind), x.a, x.b];
+    put(res, at, &bytes[..1 + x.kind.body()])
+}
+
+// Puts a sheet at the beginning: signals, outputs, END.
+fn put_sheet(s: &Sheet, res: &mut [u8])
+    requires { Whole s.now × (length (bytes_of_sheet (sheet_of s.now)) ≤ length res.old) }
+    ensures { res.new ≡ bytes_of_sheet (sheet_of s.now) ++ drop (length (bytes_of_sheet (sheet_of s.now))) res.old }
 {
     let mut at = 0;
-    let mut i = 0;
-    while i < s.signals {
-        let x = s.signal[i];
-        at = put_record(res, at, x.kind, x.a, x.b);
-        i += 1;
+    for x in s.signals.iter() {
+        at = put_signal(res, at, *x);
     }
-    at
-}
-
-// Writes the outputs from an offset on, and gives the offset after them.
-fn put_outputs(s: Sheet, res: &mut [u8], start: usize) -> usize
-    requires { Whole s × (start + length (concat_map bytes_of_output (sheet_of s).outputs) ≤ length res.old) }
-    ensures { Put res.old start (concat_map bytes_of_output (sheet_of s).outputs) res.new result }
-{
-    let mut at = start;
-    let mut i = 0;
-    while i < s.outputs {
-        let x = s.output[i];
-        at = put_record(res, at, kind::OUTPUT, x.pin, x.signal);
-        i += 1;
+    for o in s.outputs.iter() {
+        at = put(res, at, &[kind::OUTPUT, o.pin, o.signal]);
     }
-    at
-}
-
-// Writes a sheet: signals, outputs, END.
-fn put_sheet(s: Sheet, res: &mut [u8])
-    requires { Whole s × (length (bytes_of_sheet (sheet_of s)) ≤ length res.old) }
-    ensures { res.new ≡ bytes_of_sheet (sheet_of s) ++ drop (length (bytes_of_sheet (sheet_of s))) res.old }
-{
-    let outputs = put_signals(s, res);
-    let end = put_outputs(s, res, outputs);
-    res[end] = kind::END;
+    res[at] = kind::END;
 }
 
 // Writes the sheet that a file says: the sheet, OUT.
 pub fn write(file: &[u8], res: &mut [u8]) -> Answer
     ensures { Called (write_answer file.now (length res.old)) res.old res.new result }
 {
-    let found = read_sheet(file);
-    let reading = found.reading;
-    let Reading::Good = reading else {
-        return reading.refusal(File::A);
-    };
-    let s = found.sheet;
-    let n = needed(s);
+    let s = read_sheet(file).map_err(|fault| fault.in_file(File::A))?;
+    let n = needed(&s);
     if res.len() < n {
-        return Answer::Refused(Refusal::Out, File::Nothing, n);
+        return Err(Refused {
+            refusal: Refusal::Out,
+            file: File::Nothing,
+            at: n,
+        });
     }
-    put_sheet(s, res);
-    Answer::Wrote(n)
+    put_sheet(&s, res);
+    Ok(Done::Wrote(n))
 }

@@ -1,12 +1,13 @@
 -- Laws of the bits of a vector and of an output number. Assumes nothing.
 use Rattle.std.specs.Prelude.{if◌then◌else◌}
 use Prim.Native.Nat.{ℕ, zero, suc, ◌+◌, ◌*◌, ◌/◌, ◌%◌, ◌^◌, ◌<◌, ◌≤◌}
-use mathlib.Core.Path.{◌≡◌, refl, ap, ◌∙◌}
+use mathlib.Core.Path.{◌≡◌, refl, sym, ap, ◌∙◌}
 use mathlib.Core.Bool.{Bool, true, false}
 use mathlib.Core.List.{List, [], ◌∷◌, ◌++◌}
 use native.Mathlib.Nat.{div-one, pow-succ'}
 use native.Mathlib.Numerals.{add-one, one-add}
 use native.Mathlib.Omega.{arith}
+use lib.Bits.{bit_and, and_mask}
 use lib.Dec.{eqb}
 use lib.ListN.{length, get_or-eq_default}
 use lib.Pow.{shr-shr, shr_lt}
@@ -19,12 +20,15 @@ unfolding bits_of
 length_bits zero v = refl
 length_bits (suc k) v = ap suc (length_bits k (v / 2))
 
--- bit i of a vector, by a shift
-pub bit_shifted : (k v i : ℕ) → i < k → bit (bits_of k v) i ≡ eqb (v / 2 ^ i % 2) 1
+-- bit i of a vector, by a shift and a mask
+bit_shifted : (k v i : ℕ) → i < k → bit (bits_of k v) i ≡ eqb (v / 2 ^ i % 2) 1
 unfolding bits_of
 bit_shifted zero v i inside = absurd (omega arith)
 bit_shifted (suc k) v zero inside = rw (div-one v)
 bit_shifted (suc k) v (suc i) inside = bit_shifted k (v / 2) i (omega arith) ∙ ap (λ (n : ℕ). eqb (n % 2) 1) (shr-shr v 1 i) ∙ rw one-add
+
+pub bit_masked : (k v i : ℕ) → i < k → eqb (bit_and (v / 2 ^ i) 1) 1 ≡ bit (bits_of k v) i
+bit_masked k v i inside = rw (and_mask (v / 2 ^ i) 1) (sym (bit_shifted k v i inside))
 
 pub bit_beyond : (k v i : ℕ) → k ≤ i → bit (bits_of k v) i ≡ false
 bit_beyond k v i past = let out : length (bits_of k v) ≤ i = omega (arith, length_bits k v) in get_or-eq_default (bits_of k v) false out

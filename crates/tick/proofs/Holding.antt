@@ -1,33 +1,26 @@
 -- Laws of what the registers hold, and what holds at every turn of a loop that gives each register its value. Assumes nothing.
-use Rattle.std.specs.Prelude.{if◌then◌else◌}
 use Prim.Native.Nat.{ℕ, zero, suc, ◌+◌, ◌<◌, ◌≤◌}
 use mathlib.Core.Path.{◌≡◌, refl, ap, ◌∙◌}
 use mathlib.Core.Bool.{Bool, true, false}
-use mathlib.Core.List.{List, [], ◌∷◌, ◌++◌, map, append-nil}
+use mathlib.Core.List.{List, [], ◌∷◌, ◌++◌, append-nil}
 use native.Mathlib.Numerals.{add-one}
 use native.Mathlib.Omega.{arith}
-use borrow.Author.Tests.{eq-eqb, eqb-true}
-use lib.Dec.{eqb}
-use lib.ListN.{length, get_or, take, length-map}
+use lib.ListN.{length, get_or, take, length-map, length-append}
 use lib.Seq.{take_all}
 use Rattle.laws.proofs.Basic.{case_bool}
-use Rattle.meaning.specs.Numbers.{REGISTER, max_registers}
+use Rattle.meaning.specs.Numbers.{max_registers}
 use Rattle.meaning.specs.Basic.{bit, keep}
 use Rattle.meaning.specs.Sheet as paper
 use Rattle.meaning.specs.Tick.{initial, sources, taken}
+use Rattle.arrayvec.specs.ArrayVec.{array_vec_len}
 use Rattle.sheet.specs.declared.Sheet.{Sheet}
 use Rattle.sheet.specs.Stored.{signal_of, sheet_of, nth_signal, Kept}
 use Rattle.sheet.proofs.Whole.{length_signals, signal_at}
-use Rattle.tick.specs.declared.State.{State}
-use Rattle.tick.specs.Tick.{state_of, state_with_register}
-use Rattle.tick.proofs.Padded.{state_more}
-use Rattle.tick.proofs.Valuing.{is_register}
+use Rattle.sheet.specs.declared.kind.Kind.TheVariants.{Register}
+use Rattle.tick.specs.Tick.{state_of, held_by}
+use Rattle.tick.proofs.Valuing.{is_register, no_register}
 
 -- ## Register by register
-
--- what the registers among some signals hold, in order, where each holds what f says of it
-abbrev pub held_by : (paper.Signal → Bool) → List paper.Signal → List Bool
-held_by f ss = map f (keep paper.signal_is_register ss)
 
 -- a register's initial value; and what it takes from the values of a tick
 unfoldable pub initial_of : paper.Signal → Bool
@@ -88,60 +81,72 @@ module _ (f : paper.Signal → Bool) where
       (λ t. rw (held_one x (take i ss) t, held_one x ss t) (omega arith))
       (λ t. rw (held_skip x (take i ss) t, held_skip x ss t) rest)
 
-  -- ## The loop over the signals
-
-  -- after i signals, the registers among them hold what f says
-  pub record Holding (s : Sheet) (state : State) (i : ℕ) : Type 0 where
-    pub within : i ≤ s.signals
-    pub held : state ≡ state_of (held_by f (take i (sheet_of s).signals))
-
-  pub holding_start : (s : Sheet) (state : State) → state ≡ state_of [] → Holding s state 0
-  unfolding keep
-  holding_start s state is = record { within = omega arith; held = is }
-
   module _ (s : Sheet) (kept : Kept s) where
     -- one signal more of a sheet
-    held_next : (i : ℕ) → i < s.signals
+    held_next : (i : ℕ) → i < array_vec_len s.signals
         → held_by f (take (i + 1) (sheet_of s).signals) ≡ held_by f (take i (sheet_of s).signals) ++ held_by f (signal_of (nth_signal s i) ∷ [])
     held_next i inside =
         let ss = (sheet_of s).signals in
         let here = signal_of (nth_signal s i) in
-        let counted : i < length ss = omega (arith, length_signals s kept) in
-        rw (add-one i) (held_more ss i here counted ∙ ap (λ (x : paper.Signal). held_by f (take i ss) ++ held_by f (x ∷ [])) (signal_at s kept i here inside))
+        let counted : i < length ss = omega (arith, length_signals s) in
+        rw (add-one i) (held_more ss i here counted ∙ ap (λ (x : paper.Signal). held_by f (take i ss) ++ held_by f (x ∷ [])) (signal_at s i here inside))
 
     -- a register's place is free until its turn
-    held_room : (i : ℕ) → i < s.signals → (nth_signal s i).kind ≡ REGISTER → length (held_by f (take i (sheet_of s).signals)) < max_registers
+    held_room : (i : ℕ) → i < array_vec_len s.signals → (nth_signal s i).kind ≡ Register → length (held_by f (take i (sheet_of s).signals)) < max_registers
     unfolding paper.registers
     held_room i inside kind =
         let ss = (sheet_of s).signals in
         let here = signal_of (nth_signal s i) in
-        let counted : i < length ss = omega (arith, length_signals s kept) in
-        let register : paper.signal_is_register (get_or ss i here) ≡ true = rw (signal_at s kept i here inside, is_register (nth_signal s i)) (eq-eqb _ _ kind) in
+        let counted : i < length ss = omega (arith, length_signals s) in
+        let register : paper.signal_is_register (get_or ss i here) ≡ true = rw (signal_at s i here inside) (is_register (nth_signal s i) kind) in
         omega (arith, held_few ss i here counted register, length-map (keep paper.signal_is_register ss) f, kept.registers, kept.few_registers)
 
-    module _ (state : State) (i : ℕ) (turn : Holding s state i) where
-      pub holding_room : i < s.signals → (nth_signal s i).kind ≡ REGISTER → state.registers < max_registers
-      unfolding state_of
-      holding_room inside kind = rw turn.held (held_room i inside kind)
+    held_register : (i : ℕ) → i < array_vec_len s.signals → (nth_signal s i).kind ≡ Register
+        → held_by f (take (i + 1) (sheet_of s).signals) ≡ held_by f (take i (sheet_of s).signals) ++ (f (signal_of (nth_signal s i)) ∷ [])
+    unfolding keep
+    held_register i inside kind =
+        let x = nth_signal s i in
+        rw (held_next i inside, held_one (signal_of x) [] (is_register x kind))
 
-      pub holding_more : (b : Bool) (next : State) → i < s.signals
-          → ((nth_signal s i).kind ≡ REGISTER → b ≡ f (signal_of (nth_signal s i)))
-          → next ≡ (if eqb (nth_signal s i).kind REGISTER then state_with_register state b else state) → Holding s next (i + 1)
-      unfolding keep
-      holding_more b next inside is so =
-          let rs = held_by f (take i (sheet_of s).signals) in
-          let x = nth_signal s i in
-          record {
-            within = omega arith;
-            held =
-                so ∙
-                case_bool (eqb x.kind REGISTER)
-                (λ t. let kind = eqb-true x.kind REGISTER t in
-                rw (t, turn.held, held_next i inside, held_one (signal_of x) [] (is_register x ∙ t), ← is kind)
-                (state_more rs b (held_room i inside kind)))
-                (λ t. rw (t, held_next i inside, held_skip (signal_of x) [] (is_register x ∙ t), append-nil) turn.held);
-          }
+    held_other : (i : ℕ) → i < array_vec_len s.signals → ((nth_signal s i).kind ≡ Register → ⊥)
+        → held_by f (take (i + 1) (sheet_of s).signals) ≡ held_by f (take i (sheet_of s).signals)
+    unfolding keep
+    held_other i inside kind =
+        let x = nth_signal s i in
+        rw (held_next i inside, held_skip (signal_of x) [] (no_register x kind), append-nil)
 
-      pub holding_end : s.signals ≤ i → state ≡ state_of (held_by f (sheet_of s).signals)
-      holding_end all =
-          turn.held ∙ ap (λ (l : List paper.Signal). state_of (held_by f l)) (take_all i (sheet_of s).signals (omega (arith, length_signals s kept)))
+-- ## The loop over the signals
+
+-- After i signals, the registers among them hold what each f says that `means` what the calls give.
+pub record Holding (means : (paper.Signal → Bool) → Type 0) (s : Sheet) (held : List Bool) (i : ℕ) : Type 0 where
+  pub counted : length held ≡ length (held_by initial_of (take i (sheet_of s).signals))
+  pub holds : (f : paper.Signal → Bool) → means f → held ≡ held_by f (take i (sheet_of s).signals)
+
+module _ (means : (paper.Signal → Bool) → Type 0) (s : Sheet) where
+  pub holding_start : (held : List Bool) → held ≡ [] → Holding means s held 0
+  unfolding keep
+  holding_start held none = record { counted = rw none; holds = λ f is. none }
+
+  module _ (kept : Kept s) (held : List Bool) (i : ℕ) (turn : Holding means s held i) (inside : i < length s.signals.items) where
+    pub holding_room : (nth_signal s i).kind ≡ Register → length held < max_registers
+    holding_room kind = rw turn.counted (held_room initial_of s kept i inside kind)
+
+    pub holding_other : ((nth_signal s i).kind ≡ Register → ⊥) → Holding means s held (i + 1)
+    holding_other kind = record {
+      counted = rw (held_other initial_of s kept i inside kind) turn.counted;
+      holds = λ f is. rw (held_other f s kept i inside kind) (turn.holds f is);
+    }
+
+    pub holding_more : (next : List Bool) (b : Bool) → next ≡ held ++ (b ∷ []) → (nth_signal s i).kind ≡ Register
+        → ((f : paper.Signal → Bool) → means f → b ≡ f (signal_of (nth_signal s i)))
+        → Holding means s next (i + 1)
+    holding_more next b more kind gives = record {
+      counted = rw (more, held_register initial_of s kept i inside kind, length-append, length-append) (omega (arith, turn.counted));
+      holds = λ f is. rw (more, held_register f s kept i inside kind, ← gives f is, ← turn.holds f is);
+    }
+
+  pub holding_end : (held : List Bool) (i : ℕ) → Holding means s held i → length s.signals.items ≤ i
+      → (f : paper.Signal → Bool) → means f → record { held = record { items = held } } ≡ state_of (held_by f (sheet_of s).signals)
+  unfolding state_of
+  holding_end held i turn all f is =
+      rw (turn.holds f is, take_all i (sheet_of s).signals (omega (arith, length_signals s)))

@@ -1,18 +1,13 @@
 -- Laws of values in places. Assumes nothing.
-use Prim.Native.Nat.{ℕ, zero, suc, ◌+◌, ◌-◌, ◌<◌, ◌≤◌}
+use Prim.Native.Nat.{ℕ, zero, suc, ◌-◌, ◌<◌}
 use mathlib.Core.Path.{◌≡◌, refl, sym}
 use mathlib.Core.Bool.{Bool, false}
 use mathlib.Core.List.{List, [], ◌∷◌, ◌++◌, append_assoc}
 use native.Mathlib.Omega.{arith}
-use lib.ListN.{length, set, replicate, length-append, length-replicate}
+use lib.ListN.{length, set, replicate, length-append}
 use lib.Seq.{set_at}
-use Rattle.meaning.specs.Numbers.{max_registers}
 use Rattle.meaning.specs.Basic.{bit}
-use Rattle.tick.specs.Tick.{padded, state_of, state_with_register}
-
-pub padded_none : (places : ℕ) → replicate places false ≡ padded places []
-unfolding padded
-padded_none places = let all : places - 0 ≡ places = omega arith in rw all
+use Rattle.tick.specs.Tick.{padded}
 
 -- the places after the last value hold what is read past the end of the list
 pub bit-replicate : (k i : ℕ) → bit (replicate k false) i ≡ false
@@ -29,10 +24,6 @@ pub bit-padded : (places : ℕ) (vs : List Bool) (i : ℕ) → bit (padded place
 unfolding padded
 bit-padded places vs i = bit-append vs (places - length vs) i
 
-pub length-padded : (places : ℕ) (vs : List Bool) → length vs ≤ places → length (padded places vs) ≡ places
-unfolding padded
-length-padded places vs within = simp (length-append, length-replicate) (omega arith)
-
 replicate_more : (k : ℕ) → 0 < k → replicate k false ≡ false ∷ replicate (k - 1) false
 replicate_more zero some = absurd (omega arith)
 replicate_more (suc k) some = let less : suc k - 1 ≡ k = omega arith in rw less
@@ -45,11 +36,3 @@ padded_more places vs i b long room =
     let left : places - length (vs ++ (b ∷ [])) ≡ places - length vs - 1 = simp length-append (omega arith) in
     rw (replicate_more (places - length vs) (omega arith), set_at vs false (replicate (places - length vs - 1) false) b i long, left)
     (sym (append_assoc vs (b ∷ []) _))
-
--- ## Registers
-
-pub state_more : (rs : List Bool) (b : Bool) → length rs < max_registers → state_with_register (state_of rs) b ≡ state_of (rs ++ (b ∷ []))
-unfolding state_of
-state_more rs b room =
-    let more : length (rs ++ (b ∷ [])) ≡ length rs + 1 = length-append rs (b ∷ []) in
-    rw (padded_more max_registers rs (length rs) b refl room, more)

@@ -5,9 +5,9 @@ use mathlib.Core.Bool.{Bool, false}
 use mathlib.Core.List.{List, [], ◌∷◌, ◌++◌, map, tail, append_assoc, append-nil}
 use native.Mathlib.Numerals.{add-one}
 use native.Mathlib.Omega.{arith}
-use lib.ListN.{length, get_or, drop, replicate, set, length-append, length-map, length-set, drop_of_length-le, get_or-map}
+use lib.ListN.{length, get_or, drop, replicate, set, length-append, length-map, drop_of_length-le, get_or-map}
 use lib.Seq.{drop-cons, set_at}
-use Rattle.meaning.specs.Numbers.{max_inputs, max_registers, max_signals}
+use Rattle.meaning.specs.Numbers.{max_inputs, max_signals}
 use Rattle.meaning.specs.Basic.{bit, bits_of, from_bits}
 use Rattle.meaning.specs.Sheet.{Sheet, Signal, Output, input, register, inverter, gate, inputs}
 use Rattle.meaning.specs.Tick.{values_from, values, initial, sources, taken, shown, outputs_from, outputs_of}
@@ -46,11 +46,10 @@ unfolding values
 values_alike ss rs rs' xs xs' r x = values_from_alike ss rs rs' xs xs' [] r x
 
 -- the values at the state that holds rs, with all inputs 0: those that polarity asks for, whatever the number of inputs
-pub values_still : (ss : List Signal) (rs : List Bool) (inputs : ℕ) → values ss (state_of rs).held (bits_of max_inputs 0) ≡ values ss rs (replicate inputs false)
+pub values_still : (ss : List Signal) (rs : List Bool) (inputs : ℕ) → values ss (state_of rs).held.items (bits_of max_inputs 0) ≡ values ss rs (replicate inputs false)
 unfolding state_of
 values_still ss rs inputs =
-    values_alike ss (padded max_registers rs) rs (bits_of max_inputs 0) (replicate inputs false)
-    (bit-padded max_registers rs) (λ i. bit_none max_inputs i ∙ sym (bit-replicate inputs i))
+    values_alike ss rs rs (bits_of max_inputs 0) (replicate inputs false) (λ i. refl) (λ i. bit_none max_inputs i ∙ sym (bit-replicate inputs i))
 
 map_same : {A B : Type 0} (f g : A → B) (l : List A) → ((x : A) → f x ≡ g x) → map f l ≡ map g l
 map_same f g [] same = refl
@@ -83,7 +82,6 @@ tick_alike s rs rs' xs xs' r x = rw (values_alike s.signals rs rs' xs xs' r x)
 -- After t ticks: the registers hold the values `held`, the numbers `done` are stored, and the rest of the run goes on from there.
 pub record Running (s : Sheet) (vectors old : List ℕ) (state : State) (result : List ℕ) (t : ℕ) : Type 0 where
   pub within : t ≤ length vectors
-  pub places : length result ≡ length old
   pub held : List Bool
   pub holds : state ≡ state_of held
   pub done : List ℕ
@@ -103,7 +101,6 @@ module _ (s : Sheet) (vectors old : List ℕ) where
   unfolding numbers_of outputs_of
   running-start state is = record {
     within = omega arith;
-    places = refl;
     held = initial s.signals;
     holds = is;
     done = [];
@@ -113,24 +110,23 @@ module _ (s : Sheet) (vectors old : List ℕ) where
   }
 
   module _ (state : State) (result : List ℕ) (t : ℕ) (turn : Running s vectors old state result t) where
-    held_alike : Alike state.held turn.held
+    held_alike : Alike state.held.items turn.held
     unfolding state_of
-    held_alike i = rw turn.holds (bit-padded max_registers turn.held i)
+    held_alike i = rw turn.holds
 
     pub running_more : (tick : Tick) → t < length vectors → length vectors ≤ length old → inputs s.signals ≤ max_inputs
         → get_or vectors t 0 < 2 ^ inputs s.signals
-        → tick ≡ tick_of s state.held (bits_of max_inputs (get_or vectors t 0))
+        → tick ≡ tick_of s state.held.items (bits_of max_inputs (get_or vectors t 0))
         → Running s vectors old tick.next (set result t tick.shown) (t + 1)
     unfolding tick_of outputs_from
     running_more tick inside room few keeps is =
         let k = inputs s.signals in
         let x = bits_of k (get_or vectors t 0) in
         let within-inputs = bits_within k max_inputs (get_or vectors t 0) few keeps in
-        let ticked : tick ≡ tick_of s turn.held x = is ∙ tick_alike s state.held turn.held (bits_of max_inputs (get_or vectors t 0)) x held_alike within-inputs in
+        let ticked : tick ≡ tick_of s turn.held x = is ∙ tick_alike s state.held.items turn.held (bits_of max_inputs (get_or vectors t 0)) x held_alike within-inputs in
         let number : tick.shown ≡ (tick_of s turn.held x).shown = ap (λ (y : Tick). y.shown) ticked in
         record {
           within = omega arith;
-          places = length-set result t tick.shown ∙ turn.places;
           held = taken s.signals (values s.signals turn.held x);
           holds = ap (λ (y : Tick). y.next) ticked;
           done = turn.done ++ (tick.shown ∷ []);

@@ -15,6 +15,7 @@ use Rattle.meaning.specs.Numbers.{max_outputs}
 use Rattle.meaning.specs.Basic.{bit, from_bits}
 use Rattle.meaning.specs.Sheet as paper
 use Rattle.meaning.specs.Tick.{shown}
+use Rattle.arrayvec.specs.ArrayVec.{array_vec_len}
 use Rattle.sheet.specs.declared.Sheet.{Sheet}
 use Rattle.sheet.specs.Stored.{output_of, sheet_of, nth_output, Kept}
 use Rattle.sheet.proofs.Whole.{length_outputs, output_at}
@@ -38,20 +39,20 @@ put_bit b number i room less =
 
 -- after i outputs, the number has their bits
 pub record Showing (s : Sheet) (vs : List Bool) (number i : ℕ) : Type 0 where
-  pub within : i ≤ s.outputs
+  pub within : i ≤ array_vec_len s.outputs
   pub put : number ≡ from_bits (take i (shown (sheet_of s).outputs vs))
 
 module _ (s : Sheet) (kept : Kept s) (vs : List Bool) where
-  length-shown : length (shown (sheet_of s).outputs vs) ≡ s.outputs
+  length-shown : length (shown (sheet_of s).outputs vs) ≡ array_vec_len s.outputs
   unfolding shown
-  length-shown = length-map (sheet_of s).outputs (λ o. bit vs o.signal) ∙ length_outputs s kept
+  length-shown = length-map (sheet_of s).outputs (λ o. bit vs o.signal) ∙ length_outputs s
 
-  shown-at : (i : ℕ) → i < s.outputs
+  shown-at : (i : ℕ) → i < array_vec_len s.outputs
       → get_or (shown (sheet_of s).outputs vs) i (bit vs (nth_output s i).signal) ≡ bit vs (nth_output s i).signal
   unfolding shown output_of
   shown-at i inside =
       let value_at : paper.Output → Bool = λ o. bit vs o.signal in
-      get_or-map value_at (sheet_of s).outputs i (output_of (nth_output s i)) ∙ ap value_at (output_at s kept i (output_of (nth_output s i)) inside)
+      get_or-map value_at (sheet_of s).outputs i (output_of (nth_output s i)) ∙ ap value_at (output_at s i (output_of (nth_output s i)) inside)
 
   pub showing_start : Showing s vs 0 0
   unfolding from_bits
@@ -61,21 +62,25 @@ module _ (s : Sheet) (kept : Kept s) (vs : List Bool) where
     taken-length : length (take i (shown (sheet_of s).outputs vs)) ≡ i
     taken-length = length-take-le i (shown (sheet_of s).outputs vs) (omega (arith, length-shown, turn.within))
 
-    pub showing_less : number < 2 ^ i
-    showing_less =
-        rw turn.put (rw taken-length at (from_bits_less (take i (shown (sheet_of s).outputs vs))))
+    -- the next bit has its place, above the number
+    pub showing_room : i < length s.outputs.items → (i < max_outputs) × (number < 2 ^ i)
+    showing_room inside = (
+      omega (arith, length_outputs s, kept.few_outputs),
+      rw turn.put (rw taken-length at (from_bits_less (take i (shown (sheet_of s).outputs vs)))),
+    )
 
-    pub showing_more : (next : ℕ) → i < s.outputs → next ≡ number + (if bit vs (nth_output s i).signal then 2 ^ i else 0) → Showing s vs next (i + 1)
+    pub showing_more : (next : ℕ) → i < length s.outputs.items
+        → next ≡ number + (if bit vs (nth_output s i).signal then 2 ^ i else 0) → Showing s vs next (i + 1)
     showing_more next inside is =
         let bits = shown (sheet_of s).outputs vs in
         let b = bit vs (nth_output s i).signal in
         let counted : i < length bits = omega (arith, length-shown) in
         record {
-          within = omega arith;
+          within = omega (arith, inside);
           put =
               is ∙ rw (turn.put, add-one i, take-suc bits i b counted, shown-at i inside, from_bits_more (take i bits) b, taken-length);
         }
 
-    pub showing_end : s.outputs ≤ i → number ≡ from_bits (shown (sheet_of s).outputs vs)
+    pub showing_end : length s.outputs.items ≤ i → number ≡ from_bits (shown (sheet_of s).outputs vs)
     showing_end all =
-        turn.put ∙ ap from_bits (take_all i (shown (sheet_of s).outputs vs) (omega (arith, length-shown)))
+        turn.put ∙ ap from_bits (take_all i (shown (sheet_of s).outputs vs) (omega (arith, length-shown, length_outputs s)))

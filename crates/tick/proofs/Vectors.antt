@@ -1,16 +1,17 @@
 -- Laws of VECTOR: which vectors have a bit beyond the inputs, and the first tick with one. Assumes nothing.
-use Prim.Native.Nat.{ℕ, zero, suc, ◌+◌, ◌/◌, ◌^◌, ◌<◌, ◌≤◌}
-use mathlib.Core.Path.{◌≡◌, refl, sym, ◌∙◌}
-use mathlib.Core.Bool.{true, false, not}
+use Rattle.std.specs.Prelude.{Some, None, position}
+use Rattle.std.specs.List.{position_or_len}
+use Rattle.std.proofs.lemmas.List.Sums.{fails_before_first}
+use Prim.Native.Nat.{ℕ, suc, ◌+◌, ◌/◌, ◌^◌, ◌<◌, ◌≤◌}
+use mathlib.Core.Path.{◌≡◌, ◌∙◌}
+use mathlib.Core.Bool.{Bool, true, false, not}
 use mathlib.Core.List.{List, [], ◌∷◌}
 use native.Mathlib.Nat.{div-lt_iff_lt-mul}
-use native.Mathlib.Numerals.{add-one}
 use native.Mathlib.Omega.{arith}
-use borrow.Author.Tests.{lt-ltb, ltb-true, eq-eqb, eqb-true, not-true, not-false}
+use borrow.Author.Tests.{lt-ltb, ltb-true, ltb-false, eq-eqb, eqb-true, not-false}
 use lib.Dec.{ltb, eqb}
-use lib.ListN.{length, get_or, drop, drop_of_length-le}
+use lib.ListN.{length, get_or}
 use lib.Pow.{pow_pos}
-use lib.Seq.{drop-cons}
 use Rattle.laws.proofs.Basic.{case_bool, bool_iff}
 use Rattle.meaning.specs.Answer.{bad_vector_place}
 
@@ -30,36 +31,37 @@ module _ (i : ℕ) where
   unfolding bad_vector_place
   bad_later t v vs e = rw (e, bad_vector_place)
 
-  -- where none is found, every vector keeps to the inputs
-  pub vectors_keep : (t : ℕ) (vs : List ℕ) → t + length vs ≤ bad_vector_place i t vs → (k : ℕ) → k < length vs → get_or vs k 0 < 2 ^ i
-  vectors_keep t [] all k inside = absurd (omega arith)
-  vectors_keep t (v ∷ vs) all zero inside =
-      case_bool (ltb v (2 ^ i)) (λ e. ltb-true v (2 ^ i) e) (λ e. absurd (omega (arith, bad_here t v vs e)))
-  vectors_keep t (v ∷ vs) all (suc k) inside =
+  -- ## The first vector with a bit beyond the inputs
+
+  abbrev beyond : ℕ → Bool
+  beyond v = not (ltb v (2 ^ i))
+
+  place_first : (t : ℕ) (vs : List ℕ) → bad_vector_place i t vs ≡ t + position_or_len beyond vs
+  unfolding bad_vector_place
+  place_first t [] = omega arith
+  place_first t (v ∷ vs) =
       case_bool (ltb v (2 ^ i))
-      (λ e. vectors_keep (suc t) vs (omega (arith, bad_later t v vs e)) k (omega arith))
-      (λ e. absurd (omega (arith, bad_here t v vs e)))
+      (λ e. bad_later t v vs e ∙ place_first (suc t) vs ∙ rw e (omega arith))
+      (λ e. bad_here t v vs e ∙ rw e (omega arith))
 
-  -- ## The loop over the vectors
+  module _ (vectors : List ℕ) where
+    -- where none is found, every vector keeps to the inputs
+    pub vectors_keep : length vectors ≤ bad_vector_place i 0 vectors → (k : ℕ) → k < length vectors → get_or vectors k 0 < 2 ^ i
+    vectors_keep all k inside =
+        let before : k < position_or_len beyond vectors = omega (arith, place_first 0 vectors) in
+        ltb-true _ _ (not-false _ (fails_before_first beyond vectors k 0 before))
 
-  pub record Testing (vectors : List ℕ) (t : ℕ) : Type 0 where
-    pub within : t ≤ length vectors
-    pub left : bad_vector_place i 0 vectors ≡ bad_vector_place i t (drop t vectors)
+    pub vector_bad : (t : ℕ) → Some t ≡ position beyond vectors → (t ≡ bad_vector_place i 0 vectors) × (t < length vectors)
+    vector_bad t e =
+        let place : bad_vector_place i 0 vectors ≡ position_or_len beyond vectors = place_first 0 vectors ∙ omega arith in
+        case_bool (ltb (position_or_len beyond vectors) (length vectors))
+        (λ b. let found : position_or_len beyond vectors ≡ t = let h = rw b at e in cc in
+        (omega arith, omega (arith, ltb-true _ _ b)))
+        (λ b. let h = rw b at e in absurd (cc))
 
-  pub testing_start : (vectors : List ℕ) → Testing vectors 0
-  testing_start vectors = record { within = omega arith; left = refl }
-
-  module _ (vectors : List ℕ) (t : ℕ) (turn : Testing vectors t) where
-    pub testing_bad : t < length vectors → not (ltb (get_or vectors t 0) (2 ^ i)) ≡ true → t ≡ bad_vector_place i 0 vectors
-    testing_bad inside e =
-        sym (turn.left ∙ rw (drop-cons vectors t 0 inside) (bad_here t _ _ (not-true _ e)))
-
-    pub testing_more : t < length vectors → not (ltb (get_or vectors t 0) (2 ^ i)) ≡ false → Testing vectors (t + 1)
-    testing_more inside e = record {
-      within = omega arith;
-      left = turn.left ∙ rw (drop-cons vectors t 0 inside, bad_later t (get_or vectors t 0) (drop (suc t) vectors) (not-false _ e), add-one t);
-    }
-
-    pub testing_end : length vectors ≤ t → t ≡ bad_vector_place i 0 vectors
-    unfolding bad_vector_place
-    testing_end all = sym (turn.left ∙ rw (drop_of_length-le vectors {i = t} all))
+    pub vectors_good : None ≡ position beyond vectors → length vectors ≤ bad_vector_place i 0 vectors
+    vectors_good e =
+        let place : bad_vector_place i 0 vectors ≡ position_or_len beyond vectors = place_first 0 vectors ∙ omega arith in
+        case_bool (ltb (position_or_len beyond vectors) (length vectors))
+        (λ b. let h = rw b at e in absurd (cc))
+        (λ b. omega (arith, ltb-false _ _ b))

@@ -1,17 +1,15 @@
 -- How what a tick computes is stored, and what a run answers, in the terms of `meaning`. Assumes nothing.
-use Rattle.std.specs.Prelude.{ℕ, ◌+◌, ◌-◌, ◌≡◌, Bool, false, not, List, ◌++◌, map, length, set, replicate}
-use Rattle.meaning.specs.Numbers.{max_registers}
-use Rattle.meaning.specs.Basic.{bit, bits_of, from_bits}
-use Rattle.meaning.specs.Sheet.{Sheet, Signal, input, register, inverter, gate, inputs}
+use Rattle.std.specs.Prelude.{ℕ, ◌-◌, ◌≡◌, Bool, false, not, List, ◌++◌, map, length, replicate, Result}
+use Rattle.meaning.specs.Basic.{bit, bits_of, from_bits, keep}
+use Rattle.meaning.specs.Sheet.{Sheet, Signal, input, register, inverter, gate, inputs, signal_is_register}
 use Rattle.meaning.specs.Tick.{gate_value, values, taken, shown, outputs_of}
 use Rattle.meaning.specs.Answer.{run_answer, result_after}
-use Rattle.answer.specs.declared.Answer.{Answer}
-use Rattle.answer.specs.declared.Answer.TheVariants as says
-use Rattle.answer.specs.declared.Answer.TheVariants.{Wrote}
-use Rattle.answer.specs.declared.File.TheVariants.{A}
+use Rattle.answer.specs.declared.Done.{Done}
+use Rattle.answer.specs.declared.Refused.{Refused}
 use Rattle.answer.specs.Meant.{answer_of}
-use Rattle.sheet.specs.declared.Reading.{Reading}
-use Rattle.sheet.specs.declared.Reading.TheVariants.{Good, Refused}
+use Rattle.sheet.specs.declared.kind.Kind.TheVariants.{Register}
+use Rattle.sheet.specs.declared.Signal as stored
+use Rattle.sheet.specs.Stored.{signal_of}
 use Rattle.tick.specs.declared.State.{State}
 use Rattle.tick.specs.declared.Tick.{Tick}
 
@@ -23,11 +21,15 @@ padded places vs = vs ++ replicate (places - length vs) false
 
 -- the registers that hold given values
 unfoldable pub state_of : List Bool → State
-state_of rs = record { held = padded max_registers rs; registers = length rs }
+state_of rs = record { held = record { items = rs } }
 
--- one register more
-abbrev pub state_with_register : State → Bool → State
-state_with_register s b = record { held = set s.held s.registers b; registers = s.registers + 1 }
+-- what the registers among some signals hold, in order, where each holds what f says of it
+abbrev pub held_by : (Signal → Bool) → List Signal → List Bool
+held_by f ss = map f (keep signal_is_register ss)
+
+-- what a call gives for a register's record is what f says of the register
+abbrev pub Gives : (stored.Signal → Bool → Type 0) → (Signal → Bool) → Type 0
+Gives post f = (x : stored.Signal) (b : Bool) → post x b → x.kind ≡ Register → b ≡ f (signal_of x)
 
 -- ## One tick
 
@@ -50,12 +52,7 @@ tick_of s rs xs =
 unfoldable pub numbers_of : Sheet → List ℕ → List ℕ
 numbers_of s vectors = map from_bits (outputs_of s (map (bits_of (inputs s.signals)) vectors))
 
--- the answer where the sheet is refused
-unfoldable pub refused_of : Reading → Answer
-refused_of Good = Wrote 0
-refused_of (Refused k at) = says.Refused k A at
-
 -- what is answered, and the result buffer that is left of the old one
-pub record Ran (file vectors old : List ℕ) (r : Answer) (new : List ℕ) : Type 0 where
+pub record Ran (file vectors old : List ℕ) (r : Result Done Refused) (new : List ℕ) : Type 0 where
   pub answer : answer_of r ≡ (run_answer file vectors (length old)).answer
   pub result : new ≡ result_after (run_answer file vectors (length old)) old

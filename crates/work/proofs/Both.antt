@@ -1,13 +1,13 @@
 -- f of the joint list at a moment, and the same normalised. Assumes nothing.
-use Rattle.std.specs.Prelude.{if◌then◌else◌}
-use mathlib.Core.Path.{◌≡◌, refl, sym, ap, ap₂, subst, ◌∙◌}
-use mathlib.Core.Bool.{Bool, true, false, beq}
+use Rattle.std.specs.Prelude.{Result, Ok, Err}
+use mathlib.Core.Path.{◌≡◌, sym, ap, ap₂, subst, ◌∙◌}
+use mathlib.Core.Bool.{Bool, false}
 use mathlib.Core.List.{List, ◌++◌}
-use Prim.Native.Nat.{ℕ, ◌+◌, ◌<◌, ◌≤◌}
+use Prim.Native.Nat.{ℕ, ◌*◌, ◌<◌, ◌≤◌}
 use native.Mathlib.Omega.{arith}
 use lib.ListN.{length, take}
 use lib.Seq.{length-take-le, get_or-take}
-use lib.Dec.{eqb}
+use Rattle.meaning.specs.Numbers.{max_signals}
 use Rattle.meaning.specs.Basic.{bit}
 use Rattle.meaning.specs.Sheet as paper
 use Rattle.meaning.specs.Joint.{total, variables, polarity}
@@ -15,10 +15,9 @@ use Rattle.tree.specs.Tree.{Tree}
 use Rattle.tree.proofs.Function.{for_height, for_same}
 use Rattle.lists.specs.Lists as lists
 use Rattle.lists.proofs.Trees.{h_from_f}
+use Rattle.diagram.specs.declared.Full.{Full}
 use Rattle.diagram.specs.declared.Head.{Head}
-use Rattle.fill.specs.declared.Worked.{Worked}
-use Rattle.fill.specs.declared.Worked.TheVariants.{Done, Over}
-use Rattle.fill.specs.Work.{Misses, Filled, Fills}
+use Rattle.fill.specs.Work.{Filled, Fills}
 use Rattle.fill.specs.Trees.{map_trees, trees_at, tree_of_normal, normals}
 use Rattle.fill.specs.Contract.{NormalsAsks, NormalsSays}
 use Rattle.fill.proofs.Parts.{part_left}
@@ -31,59 +30,51 @@ use Rattle.work.specs.Lists.{left, right, joint}
 use Rattle.work.specs.Passes.{moment_of, f_tree, h_tree}
 use Rattle.work.specs.Stages.{f_trees, h_trees, both_trees, Held, ListFills, BothAsks, Both, BothSays}
 use Rattle.work.proofs.Held.{held_map, held_append}
-use Rattle.work.proofs.Joining.{levels_are, joint_few}
-
-flag_own : (b : Bool) → eqb (if b then 1 else 0) 1 ≡ b
-flag_own true = refl
-flag_own false = refl
+use Rattle.work.proofs.Joining.{joint_few}
 
 -- h is f itself where the polarity says plain, and complemented where it says flipped
-normal_tree : (A B : paper.Sheet) (m : lists.Moment) (v : ℕ) → v < total A B → tree_of_normal (if bit (polarity A B) v then 1 else 0) (f_tree A B m v) ≡ h_tree A B m v
+normal_tree : (A B : paper.Sheet) (m : lists.Moment) (v : ℕ) → v < total A B → tree_of_normal (bit (polarity A B) v) (f_tree A B m v) ≡ h_tree A B m v
 normal_tree A B m v l =
     normal_for _ (variables A B) (lists.f_at A B m v)
-    ∙ for_same (variables A B) _ _ (λ e _.
-    ap (λ (b : Bool). beq b (lists.f_at A B m v e)) (flag_own (bit (polarity A B) v)) ∙ sym (h_from_f A B m v l e))
+    ∙ for_same (variables A B) _ _ (λ e _. sym (h_from_f A B m v l e))
 
 -- k is the number of f, and lv that of the variable levels
-module _ (p : Pair) (t : Moment) (w : List ℕ) (a : Head) (now f h : List ℕ) (asks : BothAsks p t w a now (length f) (length h))
-    (u fs : List ℕ) (z : Worked) (says : Fills w a (f_trees (left p) (right p) (moment_of t)) f 0 u fs z) where
+module _ {p : Pair} {t : Moment} {w : List ℕ} {a : Head} (f h : List ℕ) (asks : BothAsks p t w a (length f) (length h))
+    (u : List ℕ) (b : Head) (fs : List ℕ) where
   abbrev F : List Tree
   F = f_trees (left p) (right p) (moment_of t)
 
   abbrev H : List Tree
   H = h_trees (left p) (right p) (moment_of t)
 
-  fills_as : (y : Worked) → z ≡ y → Fills w a F f 0 u fs y
-  fills_as y e = subst (λ (y : Worked). Fills w a F f 0 u fs y) e says
-
-  pub both_over : (b : Head) → z ≡ Over b → (any : List ℕ) → BothSays p t w a u fs any z
+  pub both_over : (full : Full) → Fills w a F f 0 u b fs (Err full) → (any : List ℕ) → BothSays p t w a u b fs any (Err full)
   unfolding Fills BothSays both_trees
-  both_over b e any = let m : Misses w a F u b = fills_as (Over b) e in rw e (misses_wider (F ++ H) (λ s q. part_left H q) m)
+  both_over full says any = misses_wider (F ++ H) (λ s q. part_left H q) says.0
 
-  module _ (b : Head) (e : z ≡ Done b) (k : ℕ) (whole : k ≡ length fs) where
+  module _ (says : Fills w a F f 0 u b fs (Ok tt)) {k : ℕ} (whole : k ≡ length fs) where
     filled : Filled w a F f 0 u b fs
     unfolding Fills
-    filled = fills_as (Done b) e
+    filled = says
 
     size_f : length fs ≡ joint p
     size_f = filled.frame.size ∙ asks.f_asks.sized
 
-    abbrev plain : List ℕ
+    abbrev plain : List Bool
     plain = take k p.plain
 
     -- each signal has its polarity
-    pub plain_few : k ≤ length p.plain
-    plain_few = omega (arith, whole, size_f, asks.f_asks.alike.size, joint_few p asks.f_asks.alike)
+    pub plain_few : k ≤ 2 * max_signals
+    plain_few = omega (arith, whole, size_f, joint_few p asks.f_asks.alike)
 
-    pub plain_sized : k ≡ length plain
-    plain_sized = sym (length-take-le k p.plain plain_few)
+    plain_sized : k ≡ length plain
+    plain_sized = sym (length-take-le k p.plain (omega (arith, plain_few, asks.f_asks.alike.size)))
 
-    pub normals_asks : (lv : ℕ) → lv ≡ p.a.registers + p.b.registers + p.a.inputs + p.a.inputs → NormalsAsks u b plain fs (length h) lv
+    pub normals_asks : {lv : ℕ} → lv ≡ variables (left p) (right p) → NormalsAsks u b plain fs (length h) lv
     unfolding joint
-    normals_asks lv counted = record {
+    normals_asks counted = record {
       ready = gains_ready filled.gains;
       known =
-          rw (counted, ← levels_are p asks.f_asks.alike)
+          rw counted
           (stand_known (f_tree (left p) (right p) (moment_of t)) (total (left p) (right p)) (variables (left p) (right p)) size_f (λ v l. for_height (variables (left p) (right p)) _) filled.stand);
       flags = sym plain_sized ∙ whole;
       sized = asks.h_sized ∙ sym size_f;
@@ -93,26 +84,26 @@ module _ (p : Pair) (t : Moment) (w : List ℕ) (a : Head) (now f h : List ℕ) 
     unfolding normals trees_at joint
     normals_are v l =
         let i = stand_at (f_tree (left p) (right p) (moment_of t)) (total (left p) (right p)) v v l (omega arith) filled.stand in
-        ap₂ tree_of_normal (get_or-take k p.plain v 0 (omega (arith, whole, size_f)) ∙ asks.f_asks.alike.plain v l) i.is
+        ap₂ tree_of_normal (get_or-take k p.plain v false (omega (arith, whole, size_f)) ∙ asks.f_asks.alike.plain v l) i.is
         ∙ normal_tree (left p) (right p) (moment_of t) v l
 
     all_normal : map_trees (normals u b.used plain fs) (length fs) ≡ H
     unfolding joint
     all_normal = ap (map_trees (normals u b.used plain fs)) size_f ∙ map_same _ _ (joint p) normals_are
 
-    both_by : (u' hs : List ℕ) (y : Worked) → Fills u b H h 0 u' hs y → BothSays p t w a u' fs hs y
+    both_by : (u' : List ℕ) (c : Head) (hs : List ℕ) (z : Result (Unit {0}) Full) → Fills u b H h 0 u' c hs z → BothSays p t w a u' c fs hs z
     unfolding Fills BothSays both_trees
-    both_by u' hs (Done c) k = record {
+    both_by u' c hs (Ok done) k = record {
       gains = gains_after filled.gains k.gains;
       f_stand = stand_kept k.gains.keeps filled.stand;
       h_stand = k.stand;
       f_size = size_f;
       h_size = k.frame.size ∙ asks.h_sized;
     }
-    both_by u' hs (Over c) k = misses_after filled.gains k
+    both_by u' c hs (Err full) k = misses_after filled.gains k.0
 
-    pub both_says : (u' hs : List ℕ) (y : Worked) → NormalsSays u b plain fs h u' hs y → BothSays p t w a u' fs hs y
-    both_says u' hs y k = both_by u' hs y (subst (λ (ts : List Tree). Fills u b ts h 0 u' hs y) all_normal k)
+    pub both_says : (u' : List ℕ) (c : Head) (hs : List ℕ) (z : Result (Unit {0}) Full) → NormalsSays u b plain fs h u' c hs z → BothSays p t w a u' c fs hs z
+    both_says u' c hs z k = both_by u' c hs z (subst (λ (ts : List Tree). Fills u b ts h 0 u' c hs z) all_normal k)
 
 -- ## What has been worked
 
@@ -125,8 +116,8 @@ both_held {p} {t} k =
     (held_map (h_tree (left p) (right p) (moment_of t)) (total (left p) (right p)) k.gains.good k.h_stand)
 
 -- so it is a list that is worked
-pub both_list : (p : Pair) (t : Moment) (w : List ℕ) (a : Head) (u fs hs : List ℕ) (z : Worked) → BothSays p t w a u fs hs z
-    → ListFills w a (both_trees (left p) (right p) (moment_of t)) (h_tree (left p) (right p) (moment_of t)) (joint p) u hs z
+pub both_list : (p : Pair) (t : Moment) (w : List ℕ) (a : Head) (u : List ℕ) (b : Head) (fs hs : List ℕ) (z : Result (Unit {0}) Full) → BothSays p t w a u b fs hs z
+    → ListFills w a (both_trees (left p) (right p) (moment_of t)) (h_tree (left p) (right p) (moment_of t)) (joint p) u b hs z
 unfolding BothSays ListFills joint
-both_list p t w a u fs hs (Done b) k = record { gains = k.gains; held = both_held k; stand = k.h_stand; size = k.h_size }
-both_list p t w a u fs hs (Over b) m = m
+both_list p t w a u b fs hs (Ok done) k = record { gains = k.gains; held = both_held k; stand = k.h_stand; size = k.h_size }
+both_list p t w a u b fs hs (Err full) m = m

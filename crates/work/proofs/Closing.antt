@@ -1,5 +1,6 @@
 -- A list worked in a table that had nothing of it: it fits, with its nodes counted and ids that tell, or it has more nodes than there is
 -- room for. Assumes nothing.
+use Rattle.std.specs.Prelude.{Result, Ok, Err}
 use mathlib.Core.Path.{◌≡◌, refl, sym, ap, ◌∙◌}
 use mathlib.Core.Bool.{Bool}
 use mathlib.Core.List.{List}
@@ -12,14 +13,13 @@ use Rattle.tree.specs.Tree.{Tree}
 use Rattle.tree.specs.Function.{tree_for, Columns, Part}
 use Rattle.tree.proofs.Count.{count_most}
 use Rattle.tree.proofs.NodeCount.{node_count_lem}
+use Rattle.diagram.specs.declared.Full.{Full}
 use Rattle.diagram.specs.declared.Head.{Head}
 use Rattle.diagram.specs.Words.{room_of, rest_of}
 use Rattle.diagram.specs.Table.{tree_at}
 use Rattle.diagram.specs.Contract.{Forgets}
 use Rattle.diagram.specs.Functions.{AllHeld}
 use Rattle.diagram.proofs.Trees.{node_inner}
-use Rattle.fill.specs.declared.Worked.{Worked}
-use Rattle.fill.specs.declared.Worked.TheVariants.{Done, Over}
 use Rattle.fill.specs.Work.{PartOf, Gains, Named}
 use Rattle.fill.proofs.MapTrees.{stand_at}
 use Rattle.fill.proofs.Named.{gains_fits, gains_most, misses_over}
@@ -70,10 +70,10 @@ module _ (m : ℕ) (P : (List Bool → Bool) → Type 0) (row : List Bool → Li
       tells = tells;
     }
 
-  pub list_says : (u ids : List ℕ) (z : Worked) → ListFills x e ts t n u ids z → ListSays (node_count m row) n Same w a u ids z
+  pub list_says : (u : List ℕ) (c : Head) (ids : List ℕ) (z : Result (Unit {0}) Full) → ListFills x e ts t n u c ids z → ListSays (node_count m row) n Same w a u c ids z
   unfolding ListFills ListSays
-  list_says u ids (Done c) l = fits u c ids l
-  list_says u ids (Over c) k = record {
+  list_says u c ids (Ok done) l = fits u c ids l
+  list_says u c ids (Err full) k = record {
     over = omega (arith, misses_over columns bare.used named k, bare.room);
     room = k.gains.room ∙ bare.room;
     rest = k.gains.rest ∙ bare.rest;

@@ -1,5 +1,7 @@
 -- The front of the step list: worked once, and there again after a round is forgotten. Assumes nothing.
-use mathlib.Core.Path.{◌≡◌, sym, subst, ◌∙◌}
+use Rattle.std.specs.Prelude.{Result, Ok, Err}
+use denote.Ref.{Bor}
+use mathlib.Core.Path.{◌≡◌, sym, ◌∙◌}
 use mathlib.Core.List.{List}
 use Prim.Native.Nat.{ℕ, ◌+◌, ◌*◌, ◌<◌, ◌≤◌}
 use native.Mathlib.Omega.{arith}
@@ -7,10 +9,9 @@ use lib.ListN.{length, take}
 use Rattle.meaning.specs.Numbers.{max_signals}
 use Rattle.meaning.specs.Sheet as paper
 use Rattle.lists.specs.Lists as lists
+use Rattle.diagram.specs.declared.Full.{Full}
 use Rattle.diagram.specs.declared.Head.{Head}
 use Rattle.diagram.specs.Contract.{Keeps, Forgets}
-use Rattle.fill.specs.declared.Worked.{Worked}
-use Rattle.fill.specs.declared.Worked.TheVariants.{Done, Over}
 use Rattle.fill.specs.Work.{Gains, Misses}
 use Rattle.fill.proofs.Parts.{part_left}
 use Rattle.fill.proofs.Gains.{gains_ready, gains_after, misses_after, misses_wider, stand_kept}
@@ -26,76 +27,71 @@ use Rattle.work.proofs.Both.{both_held}
 use Rattle.work.proofs.Closing.{forgot_bare}
 use Rattle.work.proofs.StepList.{front_within, front_exceeds}
 
--- the words x of the emptied table, and the arrays that h and h one tick on are put in
-module _ (p : Pair) (w : List ℕ) (a : Head) (h h' : List ℕ) (alike : Alike p) (size : length h ≡ joint p) (size' : length h' ≡ joint p)
-    (x : List ℕ) (e : Head) (empty : Forgets w a 0 x e) where
+-- the words x of the emptied table, and two arrays of n and n' places, that h and h one tick on are put in
+module _ {p : Pair} (alike : Alike p) {n n' : ℕ} (size : n ≡ joint p) (size' : n' ≡ joint p)
+    {w : List ℕ} {a : Head} {x : List ℕ} {e : Head} (empty : Forgets w a 0 x e) where
   abbrev A : paper.Sheet
   A = left p
 
   abbrev B : paper.Sheet
   B = right p
 
-  pub front_few : length h ≤ 2 * max_signals
+  front_few : n ≤ 2 * max_signals
   front_few = omega (arith, size, joint_few p alike)
 
   -- the array that f is put in
-  zeros_sized : length (take (length h) zeros) ≡ joint p
-  zeros_sized = zeros_front (length h) front_few ∙ size
+  zeros_sized : length (take n zeros) ≡ joint p
+  zeros_sized = zeros_front n front_few ∙ size
 
-  pub now_asks : (none : List ℕ) → BothAsks p Now x e none (length (take (length h) zeros)) (length h)
+  pub now_asks : BothAsks p Now x e (length (take n zeros)) n
   unfolding Earlier
-  now_asks none = record {
+  now_asks = record {
     f_asks = record { ready = record { good = rw empty.used empty.good; tallied = omega (arith, empty.used) }; alike = alike; sized = zeros_sized; earlier = tt };
     h_sized = size;
   }
 
-  front_over : (u : List ℕ) (b : Head) (any any' : List ℕ) → Misses x e (front_trees A B) u b → FrontSays p w a u any any' (Over b)
+  front_over : (u : List ℕ) (b : Head) (any any' : List ℕ) (full : Full) → Misses x e (front_trees A B) u b → FrontSays p w a u b any any' (Err full)
   unfolding FrontSays
-  front_over u b any any' k g groups = front_exceeds p g groups (forgot_bare empty) u b k
+  front_over u b any any' full k g groups = front_exceeds p g groups (forgot_bare empty) u b k
 
-  module _ (u fs hs : List ℕ) (z : Worked) (says : BothSays p Now x e u fs hs z) where
-    says_as : (y : Worked) → z ≡ y → BothSays p Now x e u fs hs y
-    says_as y q = subst (λ (y : Worked). BothSays p Now x e u fs hs y) q says
-
-    pub now_over : (b : Head) → z ≡ Over b → (any : List ℕ) → FrontSays p w a u hs any z
+  module _ (u : List ℕ) (b : Head) (fs hs : List ℕ) where
+    pub now_over : (full : Full) → BothSays p Now x e u b fs hs (Err full) → (any : List ℕ) → FrontSays p w a u b hs any (Err full)
     unfolding BothSays front_trees moment_of
-    now_over b q any =
-        let m : Misses x e (both_trees A B lists.now) u b = says_as (Over b) q in
-        rw q (front_over u b hs any (misses_wider _ (λ s k. part_left (both_trees A B lists.next) k) m))
+    now_over full m any = front_over u b hs any full (misses_wider _ (λ s k. part_left (both_trees A B lists.next) k) m)
 
-    module _ (b : Head) (q : z ≡ Done b) where
+    module _ (says : BothSays p Now x e u b fs hs (Ok tt)) where
       both : Both p Now x e u b fs hs
       unfolding BothSays
-      both = says_as (Done b) q
+      both = says
 
-      size_f : length fs ≡ length h
+      size_f : length fs ≡ n
       size_f = both.f_size ∙ sym size
 
       -- the array that f was put in
       abbrev array : List ℕ
-      array = after (length h) fs
+      array = after n fs
 
-      pub array_few : length h ≤ length array
-      array_few = after_few (length h) fs size_f
+      pub array_few : n ≤ length array
+      array_few = after_few n fs size_f
 
-      pub array_sized : length h ≡ length (take (length h) array)
-      array_sized = after_sized (length h) fs size_f
+      pub array_sized : n ≡ length (take n array)
+      array_sized = after_sized n fs size_f
 
-      pub next_asks : BothAsks p Next u b (take (length h) array) (length (take (length h) zeros)) (length h')
+      pub next_asks : (now : Bor (List ℕ)) → now.now ≡ take n array → BothAsks p (Next now) u b (length (take n zeros)) n'
       unfolding Earlier moment_of joint
-      next_asks = record {
+      next_asks now is = record {
         f_asks = record {
           ready = gains_ready both.gains;
           alike = alike;
           sized = zeros_sized;
-          earlier = rw (after_front (length h) fs size_f) (both.f_size, both.f_stand);
+          earlier = rw (is, after_front n fs size_f) (both.f_size, both.f_stand);
         };
         h_sized = size';
       }
 
-      done : (u' : List ℕ) (c : Head) (fs' hs' : List ℕ) → Both p Next u b u' c fs' hs' → FrontDone p w a u' c hs hs'
+      front : {now : Bor (List ℕ)} (u' : List ℕ) (c : Head) (fs' hs' : List ℕ) → Both p (Next now) u b u' c fs' hs' → FrontDone p w a u' c hs hs'
       unfolding front_trees moment_of
-      done u' c fs' hs' k =
+      front u' c fs' hs' k =
           let all : Gains x e (front_trees A B) u' c = gains_after both.gains k.gains in
           record {
             front = record {
@@ -113,10 +109,10 @@ module _ (p : Pair) (w : List ℕ) (a : Head) (h h' : List ℕ) (alike : Alike p
             rest = all.rest ∙ empty.rest;
           }
 
-      pub front_says : (u' fs' hs' : List ℕ) (y : Worked) → BothSays p Next u b u' fs' hs' y → FrontSays p w a u' hs hs' y
+      pub front_says : (now : Bor (List ℕ)) (u' : List ℕ) (c : Head) (fs' hs' : List ℕ) (z : Result (Unit {0}) Full) → BothSays p (Next now) u b u' c fs' hs' z → FrontSays p w a u' c hs hs' z
       unfolding BothSays FrontSays front_trees moment_of
-      front_says u' fs' hs' (Done c) k = done u' c fs' hs' k
-      front_says u' fs' hs' (Over c) k = front_over u' c hs hs' (misses_after both.gains k)
+      front_says now u' c fs' hs' (Ok done) k = front u' c fs' hs' k
+      front_says now u' c fs' hs' (Err full) k = front_over u' c hs hs' full (misses_after both.gains k)
 
 -- ## After a round is forgotten
 

@@ -1,15 +1,15 @@
 -- Lists of trees whose every part has an id, one after another. Assumes nothing.
+use Rattle.std.specs.Prelude.{Result, Ok, Err}
 use mathlib.Core.List.{List, ◌++◌}
 use mathlib.Core.Logic.{⊎_elim}
 use Prim.Native.Nat.{ℕ, suc, ◌<◌}
 use native.Mathlib.Omega.{arith}
 use Rattle.tree.specs.Tree.{Tree, whole}
+use Rattle.diagram.specs.declared.Full.{Full}
 use Rattle.diagram.specs.declared.Head.{Head}
 use Rattle.diagram.specs.Table.{Good}
 use Rattle.diagram.specs.Contract.{Keeps}
 use Rattle.diagram.proofs.Counting.{parts_held}
-use Rattle.fill.specs.declared.Worked.{Worked}
-use Rattle.fill.specs.declared.Worked.TheVariants.{Done, Over}
 use Rattle.fill.specs.Work.{PartOf, in_first, Gains, Stand}
 use Rattle.fill.specs.Trees.{map_trees}
 use Rattle.fill.proofs.Parts.{part_right, part_split}
@@ -42,12 +42,12 @@ held_kept k h = record { each = λ s q. let r = h.each s q in (r.0, is_kept k r.
 -- ## A list after one that is worked
 
 module _ {w : List ℕ} {a : Head} {ts : List Tree} {u : List ℕ} {b : Head} (g : Gains w a ts u b) (h : Held u b.used ts) where
-  pub listed_after : (us : List Tree) (t : ℕ → Tree) (k : ℕ) (u' ids : List ℕ) (z : Worked) → ListFills u b us t k u' ids z → ListFills w a (ts ++ us) t k u' ids z
+  pub listed_after : (us : List Tree) (t : ℕ → Tree) (k : ℕ) (u' : List ℕ) (c : Head) (ids : List ℕ) (z : Result (Unit {0}) Full) → ListFills u b us t k u' c ids z → ListFills w a (ts ++ us) t k u' c ids z
   unfolding ListFills
-  listed_after us t k u' ids (Done c) l = record {
+  listed_after us t k u' c ids (Ok done) l = record {
     gains = gains_after g l.gains;
     held = held_append (held_kept l.gains.keeps h) l.held;
     stand = l.stand;
     size = l.size;
   }
-  listed_after us t k u' ids (Over c) m = misses_after g m
+  listed_after us t k u' c ids (Err full) m = misses_after g m

@@ -1,10 +1,12 @@
 -- f of the joint list: the pass over A, then the pass over B. Assumes nothing.
-use mathlib.Core.Path.{◌≡◌, refl, sym, ap, subst, ◌∙◌}
+use Rattle.std.specs.Prelude.{Result, Ok, Err}
+use mathlib.Core.Path.{◌≡◌, refl, sym, ap, ◌∙◌}
 use mathlib.Core.List.{List, ◌++◌}
 use Prim.Native.Nat.{ℕ, ◌+◌, ◌-◌, ◌*◌, ◌≤◌}
 use native.Mathlib.Omega.{arith}
 use native.Mathlib.Nat.{zero-add}
 use lib.ListN.{length}
+use Rattle.arrayvec.specs.ArrayVec.{array_vec_len}
 use Rattle.meaning.specs.Numbers.{max_inputs, max_registers, max_signals}
 use Rattle.meaning.specs.Basic.{keep}
 use Rattle.meaning.specs.Sheet as paper
@@ -16,11 +18,10 @@ use Rattle.lists.specs.Recipes.{Side, sheet_on, signals_before, registers_before
 use Rattle.sheet.specs.declared.Sheet.{Sheet}
 use Rattle.sheet.specs.Stored.{sheet_of, Whole}
 use Rattle.sheet.proofs.Whole.{length_signals}
+use Rattle.diagram.specs.declared.Full.{Full}
 use Rattle.diagram.specs.declared.Head.{Head}
 use Rattle.diagram.specs.Contract.{Ready, Keeps}
 use Rattle.diagram.proofs.Grown.{keeps_all}
-use Rattle.fill.specs.declared.Worked.{Worked}
-use Rattle.fill.specs.declared.Worked.TheVariants.{Done, Over}
 use Rattle.fill.specs.Work.{Misses, Filled, Fills}
 use Rattle.fill.specs.Trees.{map_trees}
 use Rattle.fill.proofs.Parts.{part_left}
@@ -37,11 +38,11 @@ use Rattle.work.specs.Stages.{f_trees, JointAsks}
 use Rattle.work.proofs.Proper.{alike_compatible}
 
 -- what is known one tick on stays known
-pub earlier_kept : (A B : paper.Sheet) (t : Moment) {w : List ℕ} {n : ℕ} {u : List ℕ} {m : ℕ} (now : List ℕ) → Keeps w n u m → Earlier A B t w n now → Earlier A B t u m now
+earlier_kept : (A B : paper.Sheet) (t : Moment) {w : List ℕ} {n : ℕ} {u : List ℕ} {m : ℕ} → Keeps w n u m → Earlier A B t w n → Earlier A B t u m
 unfolding Earlier
-earlier_kept A B Start now k e = tt
-earlier_kept A B Now now k e = tt
-earlier_kept A B Next now k e = (e.0, stand_kept k e.1)
+earlier_kept A B Start k e = tt
+earlier_kept A B Now k e = tt
+earlier_kept A B (Next now) k e = (e.0, stand_kept k e.1)
 
 -- A's signals, then B's, are the joint list
 sides_joined : (A B : paper.Sheet) (m : lists.Moment) (i j : ℕ) → length A.signals ≡ i → length B.signals ≡ j
@@ -66,23 +67,23 @@ module _ (p : Pair) (alike : Alike p) where
   unfolding variables regs ins left right
   levels_are = omega (arith, alike.whole_a.kept.registers, alike.whole_b.kept.registers, alike.whole_a.kept.inputs)
 
-  pub levels_few : variables A B ≤ 2 * max_registers + 2 * max_inputs
+  levels_few : variables A B ≤ 2 * max_registers + 2 * max_inputs
   levels_few = omega (arith, levels_are, alike.whole_a.kept.few_registers, alike.whole_b.kept.few_registers, alike.whole_a.kept.few_inputs)
 
-  size_A : length A.signals ≡ p.a.signals
+  size_A : length A.signals ≡ array_vec_len p.a.signals
   unfolding left
-  size_A = length_signals p.a alike.whole_a.kept
+  size_A = length_signals p.a
 
-  size_B : length B.signals ≡ p.b.signals
+  size_B : length B.signals ≡ array_vec_len p.b.signals
   unfolding right
-  size_B = length_signals p.b alike.whole_b.kept
+  size_B = length_signals p.b
 
-  pub joint_is : joint p ≡ p.a.signals + p.b.signals
+  joint_is : joint p ≡ array_vec_len p.a.signals + array_vec_len p.b.signals
   unfolding joint total
   joint_is = omega (arith, size_A, size_B)
 
   pub joint_few : joint p ≤ 2 * max_signals
-  joint_few = omega (arith, joint_is, alike.whole_a.kept.signals.within, alike.whole_b.kept.signals.within)
+  joint_few = omega (arith, joint_is, alike.whole_a.kept.few_signals, alike.whole_b.kept.few_signals)
 
   -- ## Where the two passes begin
 
@@ -90,7 +91,7 @@ module _ (p : Pair) (alike : Alike p) where
   unfolding top_of_input moment_of variables regs ins left
   input-height Start = omega (arith, alike.whole_a.kept.inputs)
   input-height Now = omega (arith, alike.whole_a.kept.inputs)
-  input-height Next = omega (arith, alike.whole_a.kept.inputs)
+  input-height (Next now) = omega (arith, alike.whole_a.kept.inputs)
 
   pass_same : (t : Moment) (d : Side) (registers signals : ℕ) → registers ≡ registers_before A B d → signals ≡ signals_before A B d
       → pass_of t (variables A B) p.a.inputs registers signals ≡ pass_at A B t d 0
@@ -107,8 +108,8 @@ module _ (p : Pair) (alike : Alike p) where
 -- ## The two passes
 
 -- lv are the variable levels, counted
-module _ (p : Pair) (t : Moment) (w : List ℕ) (a : Head) (now old : List ℕ) (asks : JointAsks p t w a now (length old))
-    (lv : ℕ) (counted : lv ≡ p.a.registers + p.b.registers + p.a.inputs + p.a.inputs) where
+module _ {p : Pair} {t : Moment} {w : List ℕ} {a : Head} (old : List ℕ) (asks : JointAsks p t w a (length old))
+    {lv : ℕ} (counted : lv ≡ variables (left p) (right p)) where
   abbrev sides : lists.Moment → Side → ℕ → Tree
   sides = side_tree (left p) (right p)
 
@@ -118,7 +119,7 @@ module _ (p : Pair) (t : Moment) (w : List ℕ) (a : Head) (now old : List ℕ) 
     same_moment = ap (λ (y : Pass). y.moment) begins
 
     side_asks : (u : List ℕ) (b : Head) (ids : List ℕ) → Ready u b → Keeps w a.used u b.used → length ids ≡ length old
-        → Whole s → sheet_of s ≡ sheet_on (left p) (right p) d → SideAsks (left p) (right p) d q s u b now (length ids)
+        → Whole s → sheet_of s ≡ sheet_on (left p) (right p) d → SideAsks (left p) (right p) d q s u b (length ids)
     unfolding joint
     side_asks u b ids ready keeps size whole side = record {
       ready = ready;
@@ -128,60 +129,59 @@ module _ (p : Pair) (t : Moment) (w : List ℕ) (a : Head) (now old : List ℕ) 
       begins = begins ∙ ap (λ (m : Moment). pass_at (left p) (right p) m d 0) (sym same_moment);
       levels = omega (arith, levels_few p asks.alike);
       places_for = omega (arith, asks.sized);
-      earlier = rw same_moment (earlier_kept (left p) (right p) t now keeps asks.earlier);
+      earlier = rw same_moment (earlier_kept (left p) (right p) t keeps asks.earlier);
     }
 
-    side_fills : (u : List ℕ) (b : Head) (ids u' ids' : List ℕ) (z : Worked) → SideAsks (left p) (right p) d q s u b now (length ids) → SheetSays q s u b now ids u' ids' z
-        → Fills u b (map_trees (sides (moment_of t) d) s.signals) ids (signals_before (left p) (right p) d) u' ids' z
+    side_fills : (u : List ℕ) (b : Head) (ids u' : List ℕ) (c : Head) (ids' : List ℕ) (z : Result (Unit {0}) Full) → SideAsks (left p) (right p) d q s u b (length ids) → SheetSays q s u b ids u' c ids' z
+        → Fills u b (map_trees (sides (moment_of t) d) (array_vec_len s.signals)) ids (signals_before (left p) (right p) d) u' c ids' z
     unfolding SheetSays
-    side_fills u b ids u' ids' z k says = rw same_moment at (says (left p) (right p) d k)
+    side_fills u b ids u' c ids' z k says = rw same_moment at (says (left p) (right p) d k)
 
-  joined : (m : lists.Moment) → map_trees (sides m recipes.left) p.a.signals ++ map_trees (sides m recipes.right) p.b.signals ≡ f_trees (left p) (right p) m
+  joined : (m : lists.Moment) → map_trees (sides m recipes.left) (array_vec_len p.a.signals) ++ map_trees (sides m recipes.right) (array_vec_len p.b.signals) ≡ f_trees (left p) (right p) m
   joined m = sides_joined (left p) (right p) m _ _ (size_A p asks.alike) (size_B p asks.alike)
 
-  module _ (q : Pass) (first : q ≡ pass_of t lv p.a.inputs 0 0) where
+  module _ {q : Pass} (first : q ≡ pass_of t lv p.a.inputs 0 0) where
     begins_A : q ≡ pass_at (left p) (right p) t recipes.left 0
-    begins_A = first ∙ rw (counted, ← levels_are p asks.alike) (pass_same p asks.alike t recipes.left 0 0 refl refl)
+    begins_A = first ∙ rw counted (pass_same p asks.alike t recipes.left 0 0 refl refl)
 
-    asks_A : SideAsks (left p) (right p) recipes.left q p.a w a now (length old)
+    asks_A : SideAsks (left p) (right p) recipes.left q p.a w a (length old)
     unfolding left
     asks_A = side_asks recipes.left q p.a begins_A w a old asks.ready (keeps_all w a.used) refl asks.alike.whole_a refl
 
-    pub first_asks : SheetAsks q p.a w a now (length old)
+    pub first_asks : SheetAsks q p.a w a (length old)
     unfolding SheetAsks
     first_asks = (left p, right p, recipes.left, asks_A)
 
-    module _ (u ids : List ℕ) (z : Worked) (says : SheetSays q p.a w a now old u ids z) where
-      fills_A : (y : Worked) → z ≡ y → Fills w a (map_trees (sides (moment_of t) recipes.left) p.a.signals) old 0 u ids y
-      fills_A y e = subst (λ (y : Worked). Fills w a (map_trees (sides (moment_of t) recipes.left) p.a.signals) old 0 u ids y) e
-          (side_fills recipes.left q p.a begins_A w a old u ids z asks_A says)
+    module _ (u : List ℕ) (b : Head) (ids : List ℕ) where
+      fills_A : (z : Result (Unit {0}) Full) → SheetSays q p.a w a old u b ids z → Fills w a (map_trees (sides (moment_of t) recipes.left) (array_vec_len p.a.signals)) old 0 u b ids z
+      fills_A z says = side_fills recipes.left q p.a begins_A w a old u b ids z asks_A says
 
-      pub joint_over : (b : Head) → z ≡ Over b → Fills w a (f_trees (left p) (right p) (moment_of t)) old 0 u ids z
+      pub joint_over : (full : Full) → SheetSays q p.a w a old u b ids (Err full) → Fills w a (f_trees (left p) (right p) (moment_of t)) old 0 u b ids (Err full)
       unfolding Fills
-      joint_over b e =
-          let m : Misses w a (map_trees (sides (moment_of t) recipes.left) p.a.signals) u b = fills_A (Over b) e in
-          rw (e, ← joined (moment_of t)) (misses_wider _ (λ s q. part_left (map_trees (sides (moment_of t) recipes.right) p.b.signals) q) m)
+      joint_over full says =
+          let m : Misses w a (map_trees (sides (moment_of t) recipes.left) (array_vec_len p.a.signals)) u b × (full.head ≡ b) = fills_A (Err full) says in
+          rw (← joined (moment_of t)) (misses_wider _ (λ s q. part_left (map_trees (sides (moment_of t) recipes.right) (array_vec_len p.b.signals)) q) m.0, m.1)
 
-      module _ (b : Head) (e : z ≡ Done b) (q' : Pass) (second : q' ≡ pass_of t lv p.a.inputs p.a.registers p.a.signals) where
-        filled_A : Filled w a (map_trees (sides (moment_of t) recipes.left) p.a.signals) old 0 u b ids
+      module _ (says : SheetSays q p.a w a old u b ids (Ok tt)) {q' : Pass} (second : q' ≡ pass_of t lv p.a.inputs p.a.registers (array_vec_len p.a.signals)) where
+        filled_A : Filled w a (map_trees (sides (moment_of t) recipes.left) (array_vec_len p.a.signals)) old 0 u b ids
         unfolding Fills
-        filled_A = fills_A (Done b) e
+        filled_A = fills_A (Ok tt) says
 
         begins_B : q' ≡ pass_at (left p) (right p) t recipes.right 0
-        begins_B = second ∙ rw (counted, ← levels_are p asks.alike)
-            (pass_same p asks.alike t recipes.right p.a.registers p.a.signals (registers_A p asks.alike) (sym (size_A p asks.alike)))
+        begins_B = second ∙ rw counted
+            (pass_same p asks.alike t recipes.right p.a.registers (array_vec_len p.a.signals) (registers_A p asks.alike) (sym (size_A p asks.alike)))
 
-        asks_B : SideAsks (left p) (right p) recipes.right q' p.b u b now (length ids)
+        asks_B : SideAsks (left p) (right p) recipes.right q' p.b u b (length ids)
         unfolding right
         asks_B =
             side_asks recipes.right q' p.b begins_B u b ids (gains_ready filled_A.gains) filled_A.gains.keeps filled_A.frame.size
             asks.alike.whole_b refl
 
-        pub second_asks : SheetAsks q' p.b u b now (length ids)
+        pub second_asks : SheetAsks q' p.b u b (length ids)
         unfolding SheetAsks
         second_asks = (left p, right p, recipes.right, asks_B)
 
-        pub joint_fills : (u' ids' : List ℕ) (y : Worked) → SheetSays q' p.b u b now ids u' ids' y → Fills w a (f_trees (left p) (right p) (moment_of t)) old 0 u' ids' y
-        joint_fills u' ids' y more = rw (← joined (moment_of t))
-            (fills_after filled_A (omega (arith, size_A p asks.alike, length-map (sides (moment_of t) recipes.left) p.a.signals)) _ u' ids' y
-            (side_fills recipes.right q' p.b begins_B u b ids u' ids' y asks_B more))
+        pub joint_fills : (u' : List ℕ) (c : Head) (ids' : List ℕ) (z : Result (Unit {0}) Full) → SheetSays q' p.b u b ids u' c ids' z → Fills w a (f_trees (left p) (right p) (moment_of t)) old 0 u' c ids' z
+        joint_fills u' c ids' z more = rw (← joined (moment_of t))
+            (fills_after filled_A (omega (arith, size_A p asks.alike, length-map (sides (moment_of t) recipes.left) (array_vec_len p.a.signals))) _ u' c ids' z
+            (side_fills recipes.right q' p.b begins_B u b ids u' c ids' z asks_B more))

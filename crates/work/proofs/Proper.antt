@@ -6,6 +6,7 @@ use native.Mathlib.Omega.{arith}
 use lib.ListN.{length, get_or, take, length-append}
 use lib.Seq.{append_snoc, length-take-le}
 use lib.Dec.{eqb}
+use Rattle.arrayvec.specs.ArrayVec.{array_vec_len}
 use Rattle.meaning.specs.Numbers.{max_signals}
 use Rattle.meaning.specs.Sheet as paper
 use Rattle.promises.specs.Proper.{Fits, SignalsFit, OutputsFit, Proper}
@@ -41,46 +42,46 @@ module _ (s : Sheet) (w : Whole s) where
   abbrev ss : List paper.Signal
   ss = (sheet_of s).signals
 
-  signal_fits : (v : ℕ) → v < s.signals → Fits (length ss) (take v ss) (nth_signal ss v)
+  signal_fits : (v : ℕ) → v < array_vec_len s.signals → Fits (length ss) (take v ss) (nth_signal ss v)
   signal_fits v l =
       let k = w.kept in
       let x = stored.nth_signal s v in
       let r = k.right v l in
-      let lv : v < length ss = omega (arith, length_signals s k) in
+      let lv : v < length ss = omega (arith, length_signals s) in
       let seen : length (take v ss) ≡ v = length-take-le v ss (omega arith) in
-      let is : nth_signal ss v ≡ stored.signal_of x = signal_at s k v (paper.input 0) l in
+      let is : nth_signal ss v ≡ stored.signal_of x = signal_at s v (paper.input 0) l in
       let fits-as : (y : paper.Signal) → stored.signal_of x ≡ y → Fits (length ss) (take v ss) y → Fits (length ss) (take v ss) (nth_signal ss v) =
       λ y e f. subst (Fits (length ss) (take v ss)) (sym (is ∙ e)) f in
-      by_kind v x r
+      by_kind x
       (λ e. fits-as (paper.input x.a) (signal_input x e)
       (omega (arith, input-place ss v x.a lv (is ∙ signal_input x e), k.inputs, k.few_inputs)))
       (λ e. fits-as (paper.register (eqb x.a 1) x.b) (signal_register x e) (
         omega (arith, (register-place ss v (eqb x.a 1) x.b lv (is ∙ signal_register x e)).0, k.registers, k.few_registers),
-        omega (arith, w.sources v l e, length_signals s k),
+        omega (arith, w.sources v l e, length_signals s),
       ))
-      (λ e. fits-as (paper.inverter x.a) (signal_inverter x e) (omega (arith, r.first (omega arith), seen)))
+      (λ e. fits-as (paper.inverter x.a) (signal_inverter x e) (omega (arith, r.first (rw e (omega arith)), seen)))
       (λ e. fits-as (paper.gate paper.and x.a x.b) (signal_and x e)
-      (omega (arith, r.first (omega arith), seen), omega (arith, r.second (omega arith), seen)))
+      (omega (arith, r.first (rw e (omega arith)), seen), omega (arith, r.second (rw e (omega arith)), seen)))
       (λ e. fits-as (paper.gate paper.or x.a x.b) (signal_or x e)
-      (omega (arith, r.first (omega arith), seen), omega (arith, r.second (omega arith), seen)))
+      (omega (arith, r.first (rw e (omega arith)), seen), omega (arith, r.second (rw e (omega arith)), seen)))
       (λ e. fits-as (paper.gate paper.xor x.a x.b) (signal_xor x e)
-      (omega (arith, r.first (omega arith), seen), omega (arith, r.second (omega arith), seen)))
+      (omega (arith, r.first (rw e (omega arith)), seen), omega (arith, r.second (rw e (omega arith)), seen)))
 
-  output_fits : (i : ℕ) → i < s.outputs → (get_or (sheet_of s).outputs i (output_of stored.no_output)).signal < length ss
+  output_fits : (i : ℕ) → i < array_vec_len s.outputs → (get_or (sheet_of s).outputs i (output_of stored.no_output)).signal < length ss
   unfolding output_of
   output_fits i l =
       let e : (get_or (sheet_of s).outputs i (output_of stored.no_output)).signal ≡ (stored.nth_output s i).signal =
-      ap (λ (o : paper.Output). o.signal) (output_at s w.kept i (output_of stored.no_output) l) in
-      omega (arith, w.shown i l, length_signals s w.kept)
+      ap (λ (o : paper.Output). o.signal) (output_at s i (output_of stored.no_output) l) in
+      omega (arith, w.shown i l, length_signals s)
 
-  pub whole_proper : 0 < s.outputs → Proper (sheet_of s)
+  whole_proper : 0 < array_vec_len s.outputs → Proper (sheet_of s)
   whole_proper some =
       let k = w.kept in
       record {
-        signals = signals_fit (length ss) [] ss (omega (arith, length_signals s k, k.signals.within)) (λ v l. signal_fits v (omega (arith, length_signals s k)));
-        outputs = outputs_fit (length ss) (output_of stored.no_output) (sheet_of s).outputs (λ i l. output_fits i (omega (arith, length_outputs s k)));
-        some = omega (arith, length_outputs s k);
-        few = omega (arith, length_outputs s k, k.outputs.within);
+        signals = signals_fit (length ss) [] ss (omega (arith, length_signals s, k.few_signals)) (λ v l. signal_fits v (omega (arith, length_signals s)));
+        outputs = outputs_fit (length ss) (output_of stored.no_output) (sheet_of s).outputs (λ i l. output_fits i (omega (arith, length_outputs s)));
+        some = omega (arith, length_outputs s);
+        few = omega (arith, length_outputs s, k.few_outputs);
       }
 
 -- ## Two that are alike

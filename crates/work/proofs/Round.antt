@@ -1,9 +1,10 @@
 -- What a grouping adds to the front of the step list: the equalities with their running product up to Q, and Q times each h one tick on.
 -- Assumes nothing.
+use Rattle.std.specs.Prelude.{Result, Ok, Err}
 use mathlib.Core.Path.{◌≡◌, sym, ap, ap₂, subst, ◌∙◌}
 use mathlib.Core.Bool.{◌&&◌}
 use mathlib.Core.List.{List}
-use Prim.Native.Nat.{ℕ, zero, suc, ◌+◌, ◌<◌}
+use Prim.Native.Nat.{ℕ, zero, suc, ◌<◌}
 use native.Mathlib.Omega.{arith}
 use lib.ListN.{length}
 use lib.Dec.{ltb}
@@ -15,12 +16,9 @@ use Rattle.tree.proofs.Function.{for_height}
 use Rattle.lists.specs.Lists as lists
 use Rattle.lists.specs.Lists.{not_first, match_at, product_to}
 use Rattle.lists.proofs.Trees.{match_tree, product-tree_none, product-tree_hit, product-tree_miss, product-tree-Q}
+use Rattle.diagram.specs.declared.Full.{Full}
 use Rattle.diagram.specs.declared.Head.{Head}
-use Rattle.diagram.specs.declared.Made.{Made}
-use Rattle.diagram.specs.declared.Made.TheVariants.{Node, Full}
-use Rattle.fill.specs.declared.Worked.{Worked}
-use Rattle.fill.specs.declared.Worked.TheVariants.{Done, Over}
-use Rattle.fill.specs.Work.{Misses, Fills, Ended, Ends, Stand, worked_of_made}
+use Rattle.fill.specs.Work.{Misses, Fills, Ended, Ends, Stand}
 use Rattle.fill.specs.Trees.{map_trees, trees_at, products, equal_tree, product_tree, equal_trees}
 use Rattle.fill.specs.Contract.{Known, EqualsAsks, EqualsSays, TimesAsks, TimesSays}
 use Rattle.fill.proofs.Parts.{part_left}
@@ -32,7 +30,6 @@ use Rattle.work.specs.Lists.{left, right, joint}
 use Rattle.work.specs.Passes.{h_tree}
 use Rattle.work.specs.Stages.{times_tree, round_trees, ListFills, Front, RoundSays}
 use Rattle.work.proofs.Held.{held_map, held_append, held_kept}
-use Rattle.work.proofs.Joining.{levels_are}
 
 -- ## The equalities and products, as functions
 
@@ -54,8 +51,8 @@ module _ (A B : paper.Sheet) (g : List ℕ) where
 -- ## In the table
 
 -- lv are the variable levels, counted
-module _ (p : Pair) (g w : List ℕ) (a : Head) (h h' : List ℕ) (front : Front p w a h h') (groups : length g ≡ joint p)
-    (lv : ℕ) (counted : lv ≡ p.a.registers + p.b.registers + p.a.inputs + p.a.inputs) where
+module _ {p : Pair} {w : List ℕ} {a : Head} {h h' : List ℕ} (front : Front p w a h h') (g : List ℕ) (groups : length g ≡ joint p)
+    {lv : ℕ} (counted : lv ≡ variables (left p) (right p)) where
   abbrev A : paper.Sheet
   A = left p
 
@@ -66,7 +63,7 @@ module _ (p : Pair) (g w : List ℕ) (a : Head) (h h' : List ℕ) (front : Front
   known : (t : lists.Moment) (hs : List ℕ) → length hs ≡ joint p → Stand w a.used hs 0 (map_trees (h_tree A B t) (total A B)) → Known w a.used hs lv
   unfolding joint
   known t hs size stand =
-      rw (counted, ← levels_are p front.alike) (stand_known (h_tree A B t) (total A B) (variables A B) size (λ v l. for_height (variables A B) _) stand)
+      rw counted (stand_known (h_tree A B t) (total A B) (variables A B) size (λ v l. for_height (variables A B) _) stand)
 
   pub equals_asks : EqualsAsks w a g h lv
   equals_asks = record { ready = front.ready; known = known lists.now h front.now_size front.now_stand; groups = groups ∙ sym front.now_size }
@@ -77,7 +74,7 @@ module _ (p : Pair) (g w : List ℕ) (a : Head) (h h' : List ℕ) (front : Front
   abbrev T : ℕ → Tree
   T = times_tree A B g
 
-  module _ (u : List ℕ) (z : Made) (says : EqualsSays w a g h lv u z) where
+  module _ (u : List ℕ) (b : Head) where
     same_h : (v : ℕ) → v < length g → trees_at w a.used h v ≡ h_tree A B lists.now v
     unfolding trees_at joint
     same_h v l = (stand_at (h_tree A B lists.now) (total A B) v v (omega (arith, groups)) (omega arith) front.now_stand).is
@@ -85,23 +82,22 @@ module _ (p : Pair) (g w : List ℕ) (a : Head) (h h' : List ℕ) (front : Front
     sized : length h ≡ length g
     sized = front.now_size ∙ sym groups
 
-    ends_as : (y : Made) → z ≡ y → Ends w a E (lists.tree A B (Q A B g)) lv u y
-    ends_as y e =
+    ends : (z : Result ℕ Full) → EqualsSays w a g h lv u b z → Ends w a E (lists.tree A B (Q A B g)) lv u b z
+    ends z says =
         let same = equals_same g (trees_at w a.used h) (h_tree A B lists.now) same_h (length g) (omega arith) in
         let same-product = product_same g (trees_at w a.used h) (h_tree A B lists.now) same_h (length g) (omega arith) in
-        rw (sized, same, same-product ∙ product-Q A B g, e) at says
+        rw (sized, same, same-product ∙ product-Q A B g) at says
 
-    pub round_over : (b : Head) → z ≡ Full b → (any : List ℕ) (y : Worked) → y ≡ worked_of_made z → RoundSays p g w a u any y
-    unfolding Ends ListFills round_trees worked_of_made
-    round_over b e any y ey =
-        let q : y ≡ Over b = ey ∙ ap worked_of_made e in
-        let m : Misses w a E u b = ends_as (Full b) e in
-        rw q (misses_wider _ (λ s k. part_left (map_trees T (total A B)) k) m)
+    pub round_over : (full : Full) → EqualsSays w a g h lv u b (Err full) → (any : List ℕ) → RoundSays p g w a u b any (Err full)
+    unfolding Ends ListFills round_trees
+    round_over full says any =
+        let m : Misses w a E u b × (full.head ≡ b) = ends (Err full) says in
+        misses_wider _ (λ s k. part_left (map_trees T (total A B)) k) m.0
 
-    module _ (q : ℕ) (b : Head) (e : z ≡ Node q b) (ids : List ℕ) (places : length ids ≡ joint p) where
+    module _ (q : ℕ) (says : EqualsSays w a g h lv u b (Ok q)) (ids : List ℕ) (places : length ids ≡ joint p) where
       ended : Ended w a E (lists.tree A B (Q A B g)) lv u b q
       unfolding Ends
-      ended = ends_as (Node q b) e
+      ended = ends (Ok q) says
 
       pub times_asks : TimesAsks u b q h' (length ids) lv
       times_asks = record {
@@ -120,15 +116,15 @@ module _ (p : Pair) (g w : List ℕ) (a : Head) (h h' : List ℕ) (front : Front
       all_products : map_trees (products u b.used q h') (length h') ≡ map_trees T (joint p)
       all_products = ap (map_trees (products u b.used q h')) front.next_size ∙ map_same _ _ (joint p) products_are
 
-      round_by : (u' out : List ℕ) (y : Worked) → Fills u b (map_trees T (joint p)) ids 0 u' out y → RoundSays p g w a u' out y
+      round_by : (u' : List ℕ) (c : Head) (out : List ℕ) (z : Result (Unit {0}) Full) → Fills u b (map_trees T (joint p)) ids 0 u' c out z → RoundSays p g w a u' c out z
       unfolding Fills ListFills round_trees joint
-      round_by u' out (Done c) k = record {
+      round_by u' c out (Ok done) k = record {
         gains = gains_after ended.gains k.gains;
         held = held_append (held_kept k.gains.keeps (record { each = ended.all })) (held_map T (total A B) k.gains.good k.stand);
         stand = k.stand;
         size = k.frame.size ∙ places;
       }
-      round_by u' out (Over c) k = misses_after ended.gains k
+      round_by u' c out (Err full) k = misses_after ended.gains k.0
 
-      pub round_says : (u' out : List ℕ) (y : Worked) → TimesSays u b q h' ids u' out y → RoundSays p g w a u' out y
-      round_says u' out y k = round_by u' out y (subst (λ (ts : List Tree). Fills u b ts ids 0 u' out y) all_products k)
+      pub round_says : (u' : List ℕ) (c : Head) (out : List ℕ) (z : Result (Unit {0}) Full) → TimesSays u b q h' ids u' c out z → RoundSays p g w a u' c out z
+      round_says u' c out z k = round_by u' c out z (subst (λ (ts : List Tree). Fills u b ts ids 0 u' c out z) all_products k)

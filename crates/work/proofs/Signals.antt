@@ -1,37 +1,37 @@
 -- One signal of a pass: what its call of the table is asked, and which tree the call makes. Assumes nothing.
-use mathlib.Core.Path.{◌≡◌, sym, ap, ap₂, subst, ◌∙◌}
-use mathlib.Core.Bool.{Bool}
+use Rattle.std.specs.Prelude.{Result, Ok}
+use denote.Ref.{Bor}
+use mathlib.Core.Path.{◌≡◌, refl, sym, ap, ap₂, subst, ◌∙◌}
 use mathlib.Core.List.{List}
 use Prim.Native.Nat.{ℕ, ◌+◌, ◌<◌, ◌≤◌}
 use native.Mathlib.Omega.{arith}
-use borrow.Author.Tests.{eqb-true, eqb-false}
 use lib.ListN.{length, get_or}
 use lib.Dec.{eqb}
-use Rattle.meaning.specs.Numbers.{INPUT, REGISTER, NOT, AND, OR, XOR}
+use Rattle.meaning.specs.Sheet as paper
 use Rattle.meaning.specs.Tick.{gate_value}
-use Rattle.tree.specs.Tree.{Tree, leaf, glue, combine_tree, complement_tree}
-use Rattle.laws.proofs.Basic.{case_bool}
-use Rattle.lists.specs.Recipes.{made, tree_of}
+use Rattle.tree.specs.Tree.{Tree, leaf, glue, complement_tree}
+use Rattle.lists.specs.Recipes.{made}
+use Rattle.sheet.specs.declared.kind.Kind.TheVariants.{Input, Register, Not, And, Or, Xor}
 use Rattle.sheet.specs.declared.Signal.{Signal}
 use Rattle.sheet.specs.Stored.{signal_of}
 use Rattle.sheet.proofs.Right.{signal_input, signal_register, signal_inverter, signal_and, signal_or, signal_xor}
+use Rattle.diagram.specs.declared.Full.{Full}
 use Rattle.diagram.specs.declared.Head.{Head}
-use Rattle.diagram.specs.declared.Made.{Made}
-use Rattle.diagram.specs.declared.Made.TheVariants.{Node}
 use Rattle.diagram.specs.declared.Op.{Op}
+use Rattle.diagram.specs.declared.Op.TheVariants as op
 use Rattle.diagram.specs.Operation.{op_of}
 use Rattle.diagram.specs.Table.{tree_at, glued, combined}
-use Rattle.diagram.specs.Contract.{Has, Says, Ready, Under, MakeAsks, CombineAsks, ComplementAsks}
+use Rattle.diagram.specs.Contract.{Has, Gives, Ready, MakeAsks}
 use Rattle.diagram.proofs.Trees.{tree-constant, height-constant}
 use Rattle.diagram.proofs.Grown.{has_there}
 use Rattle.fill.specs.Trees.{trees_at}
 use Rattle.work.specs.declared.pass.Moment.{Moment}
 use Rattle.work.specs.declared.pass.Moment.TheVariants.{Start, Now, Next}
 use Rattle.work.specs.declared.pass.Pass.{Pass}
-use Rattle.work.specs.Passes.{variable_at, register_in, signal_in, op_of_gate, Operand, RegisterAsks, SignalAsks, RegisterSays}
+use Rattle.work.specs.Passes.{variable_at, register_in, signal_in, Operand, RegisterAsks, GateAsks, GateSays, SignalAsks}
 
-says_same : (w : List ℕ) (a : Head) (u : List ℕ) (z : Made) {t t' : Tree} → t ≡ t' → Says w a t u z → Says w a t' u z
-says_same w a u z e s = subst (λ (t : Tree). Says w a t u z) e s
+gives_same : (w : List ℕ) (a : Head) (u : List ℕ) (b : Head) (z : Result ℕ Full) {t t' : Tree} → t ≡ t' → Gives w a t u b z → Gives w a t' u b z
+gives_same w a u b z e s = subst (λ (t : Tree). Gives w a t u b z) e s
 
 -- ## A variable is made over the constants
 
@@ -50,95 +50,105 @@ variable_made w n v = ap₂ (glue v) (tree-constant w n 0 (omega arith)) (tree-c
 
 -- ## A register
 
-module _ (p : Pass) (x : Signal) (w : List ℕ) (a : Head) (now : List ℕ) (ready : Ready w a) (asks : RegisterAsks p.moment p x w a.used now) where
+module _ (p : Pass) (x : Signal) (w : List ℕ) (a : Head) (ready : Ready w a) (asks : RegisterAsks p.moment p x w a.used) where
   abbrev register_now : Moment → Tree
-  register_now t = register_in t p (trees_at w a.used now) (eqb x.a 1) x.b
+  register_now t = register_in t p (trees_at w a.used) (eqb x.a 1) x.b
 
-  asks_at : (t : Moment) → p.moment ≡ t → RegisterAsks t p x w a.used now
-  asks_at t e = subst (λ (m : Moment). RegisterAsks m p x w a.used now) e asks
+  asks_at : (t : Moment) → p.moment ≡ t → RegisterAsks t p x w a.used
+  asks_at t e = subst (λ (m : Moment). RegisterAsks m p x w a.used) e asks
 
-  says_at : (t : Moment) → p.moment ≡ t → (u : List ℕ) (z : Made) → Says w a (register_now t) u z → Says w a (register_now p.moment) u z
-  says_at t e u z s = subst (λ (m : Moment). Says w a (register_now m) u z) (sym e) s
+  gives_at : (t : Moment) → p.moment ≡ t → (u : List ℕ) (b : Head) (z : Result ℕ Full) → Gives w a (register_now t) u b z → Gives w a (register_now p.moment) u b z
+  gives_at t e u b z s = subst (λ (m : Moment). Gives w a (register_now m) u b z) (sym e) s
 
-  pub register-start : p.moment ≡ Start → Says w a (register_now p.moment) w (Node x.a a)
-  unfolding Says register_in RegisterAsks
+  register-start : p.moment ≡ Start → Gives w a (register_now p.moment) w a (Ok x.a)
+  unfolding Gives register_in RegisterAsks
   register-start e =
       let q : x.a ≤ 1 = asks_at Start e in
       let h : Has w a (leaf (eqb x.a 1)) w a x.a = has_there w a _ x.a ready (omega arith) (tree-constant w a.used x.a (omega arith)) in
-      says_at Start e w (Node x.a a) h
+      gives_at Start e w a (Ok x.a) h
 
-  pub register-now_asks : p.moment ≡ Now → MakeAsks w a p.register 0 1
+  register-now_asks : p.moment ≡ Now → MakeAsks w a p.register 0 1
   unfolding RegisterAsks
   register-now_asks e = let q : (0 < p.register) × (p.register < 65536) = asks_at Now e in variable_asks w a p.register ready q.0 q.1
 
-  pub register-now : p.moment ≡ Now → (u : List ℕ) (z : Made) → Says w a (glued w a.used p.register 0 1) u z → Says w a (register_now p.moment) u z
+  register-now : p.moment ≡ Now → (u : List ℕ) (b : Head) (z : Result ℕ Full) → Gives w a (glued w a.used p.register 0 1) u b z → Gives w a (register_now p.moment) u b z
   unfolding register_in
-  register-now e u z s = says_at Now e u z (says_same w a u z (variable_made w a.used p.register) s)
+  register-now e u b z s = gives_at Now e u b z (gives_same w a u b z (variable_made w a.used p.register) s)
 
-  source : p.moment ≡ Next → Operand p w a.used now x.b
-  unfolding RegisterAsks
-  source e = asks_at Next e
+  module _ (now : Bor (List ℕ)) (e : p.moment ≡ Next now) where
+    source : Operand p w a.used now.now x.b
+    unfolding RegisterAsks
+    source = asks_at (Next now) e
 
-  pub register-next_asks : p.moment ≡ Next → p.before + x.b < length now
-  register-next_asks e = (source e).place
+    register-next : (r : ℕ) → r ≡ get_or now.now (p.before + x.b) 0 → Gives w a (register_now p.moment) w a (Ok r)
+    unfolding Gives register_in trees_at
+    register-next r er =
+        let l : r < a.used + 2 = rw er source.under.id in
+        let h : Has w a (tree_at w a.used (get_or now.now (p.before + x.b) 0)) w a r = has_there w a _ r ready l (ap (tree_at w a.used) er) in
+        gives_at (Next now) e w a (Ok r) h
 
-  pub register-next : p.moment ≡ Next → (r : ℕ) → r ≡ get_or now (p.before + x.b) 0 → Says w a (register_now p.moment) w (Node r a)
-  unfolding Says register_in trees_at
-  register-next e r er =
-      let l : r < a.used + 2 = rw er (source e).under.id in
-      let h : Has w a (tree_at w a.used (get_or now (p.before + x.b) 0)) w a r = has_there w a _ r ready l (ap (tree_at w a.used) er) in
-      says_at Next e w (Node r a) h
+-- ## A gate
+
+module _ {p : Pass} {x : Signal} {w : List ℕ} {a : Head} {own : List ℕ} (asks : GateAsks p x w a own)
+    {i j : ℕ} (ei : i ≡ get_or own (p.before + x.a) 0) (ej : j ≡ get_or own (p.before + x.b) 0) where
+  pub gate_says : (op : Op) (u : List ℕ) (b : Head) (z : Result ℕ Full) → Gives w a (combined w a.used (op_of op) i j) u b z → GateSays p op x w a own u b z
+  unfolding trees_at
+  gate_says op u b z s = gives_same w a u b z (rw (ei, ej)) s
 
 -- ## A signal by its kind
 
--- a gate's tree is made by its operation
-gate-tree : (x : Signal) → AND ≤ x.kind → x.kind ≤ XOR → (v : Tree) (r : Bool → ℕ → Tree) (val : ℕ → Tree)
-    → combine_tree (op_of (op_of_gate x.kind)) (val x.a) (val x.b) ≡ tree_of (signal_of x) v r val
-unfolding made op_of_gate gate_value op_of
-gate-tree x lo hi v r val = case_bool (eqb x.kind AND)
-    (λ t. rw (t, signal_and x (eqb-true _ _ t)))
-    (λ t. case_bool (eqb x.kind OR)
-    (λ s. rw (t, s, signal_or x (eqb-true _ _ s)))
-    (λ s.
-    let n = eqb-false x.kind AND t in
-    let m = eqb-false x.kind OR s in
-    let e : x.kind ≡ XOR = omega arith in
-    rw (t, s, signal_xor x e)))
-
-module _ (p : Pass) (x : Signal) (w : List ℕ) (a : Head) (now own : List ℕ) (asks : SignalAsks p x w a now own) where
+module _ {p : Pass} {x : Signal} {w : List ℕ} {a : Head} {own : List ℕ} (asks : SignalAsks p x w a own) where
   abbrev signal_now : Tree
-  signal_now = signal_in p (trees_at w a.used now) (trees_at w a.used own) x
+  signal_now = signal_in p (trees_at w a.used) own x
 
-  pub input_asks : x.kind ≡ INPUT → MakeAsks w a p.input 0 1
+  pub input_asks : x.kind ≡ Input → MakeAsks w a p.input 0 1
   input_asks e = let q = asks.input e in variable_asks w a p.input asks.ready q.0 q.1
 
-  pub input_says : x.kind ≡ INPUT → (u : List ℕ) (z : Made) → Says w a (glued w a.used p.input 0 1) u z → Says w a signal_now u z
+  pub input_says : x.kind ≡ Input → (u : List ℕ) (b : Head) (z : Result ℕ Full) → Gives w a (glued w a.used p.input 0 1) u b z → Gives w a signal_now u b z
   unfolding signal_in made
-  input_says e u z s = says_same w a u z (variable_made w a.used p.input ∙ rw (signal_input x e)) s
+  input_says e u b z s = gives_same w a u b z (variable_made w a.used p.input ∙ rw (signal_input x e)) s
 
-  pub register_says : x.kind ≡ REGISTER → (u : List ℕ) (z : Made) → RegisterSays p x w a now u z → Says w a signal_now u z
-  unfolding signal_in made
-  register_says e u z s = says_same w a u z (rw (signal_register x e)) s
+  module _ (k : x.kind ≡ Register) where
+    of_register : (u : List ℕ) (b : Head) (z : Result ℕ Full) → Gives w a (register_in p.moment p (trees_at w a.used) (eqb x.a 1) x.b) u b z → Gives w a signal_now u b z
+    unfolding signal_in made
+    of_register u b z s = gives_same w a u b z (rw (signal_register x k)) s
 
-  module _ (i : ℕ) (ei : i ≡ get_or own (p.before + x.a) 0) where
-    operand_under : (k j : ℕ) → Operand p w a.used own k → j ≡ get_or own (p.before + k) 0 → Under w a.used j p.left
-    operand_under k j o e = rw e o.under
+    pub start_says : p.moment ≡ Start → (r : ℕ) → r ≡ x.a → Gives w a signal_now w a (Ok r)
+    start_says e r er = rw er (of_register w a _ (register-start p x w a asks.ready (asks.register k) e))
 
-    pub inverter_asks : x.kind ≡ NOT → ComplementAsks w a i p.left
-    inverter_asks e = record { ready = asks.ready; operand = operand_under x.a i (asks.first (omega arith)) ei }
+    pub now_asks : p.moment ≡ Now → MakeAsks w a p.register 0 1
+    now_asks e = register-now_asks p x w a asks.ready (asks.register k) e
 
-    pub inverter_says : x.kind ≡ NOT → (u : List ℕ) (z : Made) → Says w a (complement_tree (tree_at w a.used i)) u z → Says w a signal_now u z
-    unfolding signal_in made trees_at
-    inverter_says e u z s = says_same w a u z (rw (ei, signal_inverter x e)) s
+    pub now_says : p.moment ≡ Now → (u : List ℕ) (b : Head) (z : Result ℕ Full) → Gives w a (glued w a.used p.register 0 1) u b z → Gives w a signal_now u b z
+    now_says e u b z s = of_register u b z (register-now p x w a asks.ready (asks.register k) e u b z s)
 
-    module _ (j : ℕ) (ej : j ≡ get_or own (p.before + x.b) 0) (two : AND ≤ x.kind) where
-      pub gate_asks : CombineAsks w a i j p.left
-      gate_asks = record {
-        ready = asks.ready;
-        first = operand_under x.a i (asks.first (omega arith)) ei;
-        second = operand_under x.b j (asks.second two) ej;
-      }
+    module _ (now : Bor (List ℕ)) (e : p.moment ≡ Next now) where
+      pub next_asks : p.before + x.b < length now.now
+      next_asks = (source p x w a asks.ready (asks.register k) now e).place
 
-      pub gate_says : (op : Op) → op ≡ op_of_gate x.kind → (u : List ℕ) (z : Made) → Says w a (combined w a.used (op_of op) i j) u z → Says w a signal_now u z
-      unfolding signal_in trees_at
-      gate_says op eo u z s = says_same w a u z (rw (ei, ej, eo) (gate-tree x two asks.most _ _ (λ k. tree_at w a.used (get_or own (p.before + k) 0)))) s
+      pub next_says : (r : ℕ) → r ≡ get_or now.now (p.before + x.b) 0 → Gives w a signal_now w a (Ok r)
+      next_says r er = of_register w a _ (register-next p x w a asks.ready (asks.register k) now e r er)
+
+  module _ (k : x.kind ≡ Not) where
+    module _ {i : ℕ} (ei : i ≡ get_or own (p.before + x.a) 0) where
+      pub inverter_says : (u : List ℕ) (b : Head) (z : Result ℕ Full) → Gives w a (complement_tree (tree_at w a.used i)) u b z → Gives w a signal_now u b z
+      unfolding signal_in made trees_at
+      inverter_says u b z s = gives_same w a u b z (rw (ei, signal_inverter x k)) s
+
+  -- an operation is that of a gate whose kind it is
+  module _ (u : List ℕ) (b : Head) (z : Result ℕ Full) where
+    kind_says : (op : Op) (g : paper.Gate) → signal_of x ≡ paper.gate g x.a x.b → op_of op ≡ gate_value g → GateSays p op x w a own u b z → Gives w a signal_now u b z
+    unfolding signal_in made
+    kind_says op g e o s = gives_same w a u b z (rw (e, o)) s
+
+    pub and_says : x.kind ≡ And → GateSays p op.And x w a own u b z → Gives w a signal_now u b z
+    unfolding op_of gate_value
+    and_says k s = kind_says op.And paper.and (signal_and x k) refl s
+
+    pub or_says : x.kind ≡ Or → GateSays p op.Or x w a own u b z → Gives w a signal_now u b z
+    unfolding op_of gate_value
+    or_says k s = kind_says op.Or paper.or (signal_or x k) refl s
+
+    pub xor_says : x.kind ≡ Xor → GateSays p op.Xor x w a own u b z → Gives w a signal_now u b z
+    unfolding op_of gate_value
+    xor_says k s = kind_says op.Xor paper.xor (signal_xor x k) refl s

@@ -1,4 +1,5 @@
 -- The start list: f and h in the initial state are its functions, and the ids of h tell Start. Assumes nothing.
+use Rattle.std.specs.Prelude.{Result, Ok, Err, OnOk}
 use mathlib.Core.Path.{◌≡◌, refl, ap, ◌∙◌}
 use mathlib.Core.Bool.{Bool}
 use mathlib.Core.List.{List}
@@ -15,18 +16,18 @@ use Rattle.lists.specs.Lists as lists
 use Rattle.lists.specs.Lists.{StartFun, f-start, h-start}
 use Rattle.lists.proofs.Lists.{start_columns}
 use Rattle.lists.proofs.Tests.{start-tree}
+use Rattle.diagram.specs.declared.Full.{Full}
 use Rattle.diagram.specs.declared.Head.{Head}
 use Rattle.diagram.specs.Words.{room_of, rest_of}
+use Rattle.diagram.specs.Contract.{Ready}
 use Rattle.diagram.proofs.Empty.{cleared-room, cleared_good}
-use Rattle.fill.specs.declared.Worked.{Worked}
-use Rattle.fill.specs.declared.Worked.TheVariants.{Done, Over}
 use Rattle.fill.specs.Work.{PartOf, Named}
 use Rattle.fill.proofs.Parts.{part_left, part_right}
 use Rattle.fill.proofs.Gains.{gains_ready}
 use Rattle.fill.proofs.Named.{named-append, named-map}
 use Rattle.work.specs.declared.Pair.{Pair}
 use Rattle.work.specs.declared.pass.Moment.TheVariants.{Start}
-use Rattle.work.specs.Lists.{left, right, joint, Alike, StartSays, ReadyDone}
+use Rattle.work.specs.Lists.{left, right, joint, Alike, StartSays}
 use Rattle.work.specs.Passes.{moment_of, f_tree, h_tree, Earlier}
 use Rattle.work.specs.Stages.{f_trees, h_trees, both_trees, BothAsks, BothSays}
 use Rattle.work.proofs.Front.{zeros, zeros_front}
@@ -58,27 +59,24 @@ cleared_rest w =
 
 -- the words x of the emptied table
 module _ (p : Pair) (w x : List ℕ) (a e : Head) (clean : x ≡ cleared w) (empty : e.used ≡ 0) (most : e.most ≡ a.most) where
-  pub start_asks : (none ids : List ℕ) → Alike p → length ids ≡ joint p → BothAsks p Start x e none (length (take (length ids) zeros)) (length ids)
+  pub start_asks : (ids : List ℕ) → Alike p → length ids ≡ joint p → BothAsks p Start x e (length (take (length ids) zeros)) (length ids)
   unfolding Earlier
-  start_asks none ids alike size = record {
+  start_asks ids alike size = record {
     f_asks = record { ready = record { good = rw (clean, empty) (cleared_good w); tallied = omega arith }; alike = alike; sized = zeros_front (length ids) (omega (arith, joint_few p alike)) ∙ size; earlier = tt };
     h_sized = size;
   }
 
-  module _ (u fs hs : List ℕ) where
-    start_ready : (z : Worked) → BothSays p Start x e u fs hs z → ReadyDone u z
-    unfolding BothSays ReadyDone
-    start_ready (Done b) k = gains_ready k.gains
-    start_ready (Over b) k = tt
+  module _ (u : List ℕ) (b : Head) (fs hs : List ℕ) where
+    pub start_ready : (z : Result (Unit {0}) Full) → BothSays p Start x e u b fs hs z → OnOk z (Ready u b)
+    unfolding BothSays
+    start_ready (Ok done) k = gains_ready k.gains
+    start_ready (Err full) k = tt
 
-    start_list : (z : Worked) → BothSays p Start x e u fs hs z → StartSays p w a u hs z
+    pub start_says : (z : Result (Unit {0}) Full) → BothSays p Start x e u b fs hs z → StartSays p w a u b hs z
     unfolding StartSays start_count moment_of
-    start_list z k =
+    start_says z k =
         let A = left p in
         let B = right p in
         let bare : Bare w a x e = record { used = empty; most = most; room = ap room_of clean ∙ cleared-room w; rest = ap rest_of clean ∙ cleared_rest w } in
         list_says (variables A B) (StartFun A B) (start_list_of A B) _ (start_columns A B) (both_trees A B lists.start) (start-named A B) (start_all A B)
-        (h_tree A B lists.start) (joint p) (StartEqual A B) (start-tree A B) bare u hs z (both_list p Start x e u fs hs z k)
-
-    pub start_says : (z : Worked) → BothSays p Start x e u fs hs z → StartSays p w a u hs z × ReadyDone u z
-    start_says z k = (start_list z k, start_ready z k)
+        (h_tree A B lists.start) (joint p) (StartEqual A B) (start-tree A B) bare u b hs z (both_list p Start x e u b fs hs z k)

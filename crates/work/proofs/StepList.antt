@@ -1,4 +1,5 @@
 -- The step list of a grouping: its front and what a round adds are of its functions, and the ids of Q times h tell Step. Assumes nothing.
+use Rattle.std.specs.Prelude.{Result, Ok, Err, OnOk}
 use mathlib.Core.Path.{◌≡◌, refl, sym, subst, ◌∙◌}
 use mathlib.Core.Bool.{Bool}
 use mathlib.Core.List.{List}
@@ -15,10 +16,9 @@ use Rattle.lists.specs.Lists as lists
 use Rattle.lists.specs.Lists.{not_first, match_at, product_to, timesQ, StepFun, f-now, h-now, equality, product, f-next, h-next, times_Q}
 use Rattle.lists.proofs.Lists.{step_columns}
 use Rattle.lists.proofs.Trees.{times_tree_lem}
+use Rattle.diagram.specs.declared.Full.{Full}
 use Rattle.diagram.specs.declared.Head.{Head}
 use Rattle.diagram.proofs.Trees.{tree-constant}
-use Rattle.fill.specs.declared.Worked.{Worked}
-use Rattle.fill.specs.declared.Worked.TheVariants.{Done, Over}
 use Rattle.fill.specs.Work.{PartOf, Gains, Misses, Named}
 use Rattle.fill.specs.Trees.{map_trees, equal_trees}
 use Rattle.fill.proofs.Parts.{part_left, part_right}
@@ -26,7 +26,7 @@ use Rattle.fill.proofs.Gains.{gains_ready, misses_wider}
 use Rattle.fill.proofs.Named.{named-append, named-map}
 use Rattle.fill.proofs.Products.{equal_part, product_part, named_equals}
 use Rattle.work.specs.declared.Pair.{Pair}
-use Rattle.work.specs.Lists.{left, right, joint, Exceeds, ListSays, StepSays, HoldsDone}
+use Rattle.work.specs.Lists.{left, right, joint, Exceeds, ListSays, StepSays, Holds}
 use Rattle.work.specs.Passes.{f_tree, h_tree}
 use Rattle.work.specs.Stages.{f_trees, h_trees, both_trees, front_trees, times_tree, round_trees, step_trees, ListFills, Front, RoundSays}
 use Rattle.work.proofs.Told.{step_told}
@@ -121,13 +121,13 @@ module _ (A B : Sheet) (g : List ℕ) (known : length g ≡ total A B) where
 -- ## Worked from no node on
 
 module _ (p : Pair) (g : List ℕ) (groups : length g ≡ joint p) {w : List ℕ} {a : Head} {x : List ℕ} {e : Head} (bare : Bare w a x e) where
-  step_by : (u ids : List ℕ) (z : Worked) → ListFills x e (step_trees (left p) (right p) g) (times_tree (left p) (right p) g) (joint p) u ids z → StepSays p g w a u ids z
+  step_by : (u : List ℕ) (b : Head) (ids : List ℕ) (z : Result (Unit {0}) Full) → ListFills x e (step_trees (left p) (right p) g) (times_tree (left p) (right p) g) (joint p) u b ids z → StepSays p g w a u b ids z
   unfolding StepSays step_count joint
-  step_by u ids z k =
+  step_by u b ids z k =
       let A = left p in
       let B = right p in
       list_says (variables A B) (StepFun A B g) (step_list_of A B g) _ (step_columns A B g groups).1 (step_trees A B g) (step-named A B g groups) (step_all A B g groups)
-      (times_tree A B g) (joint p) (StepEqual A B g) (step_tells A B g groups) bare u ids z k
+      (times_tree A B g) (joint p) (StepEqual A B g) (step_tells A B g groups) bare u b ids z k
 
   -- the front alone is among its nodes
   module _ (u : List ℕ) (b : Head) where
@@ -137,11 +137,11 @@ module _ (p : Pair) (g : List ℕ) (groups : length g ≡ joint p) {w : List ℕ
 
     pub front_exceeds : Misses x e (front_trees (left p) (right p)) u b → Exceeds (step_count (left p) (right p) g) w u
     unfolding StepSays ListSays ListFills
-    front_exceeds k = step_by u u (Over b) (misses_wider _ (λ s q. part_left (round_trees (left p) (right p) g) q) k)
+    front_exceeds k = step_by u b u (Err (record { head = b })) (misses_wider _ (λ s q. part_left (round_trees (left p) (right p) g) q) k)
 
 -- ## Worked on from its front
 
-module _ (p : Pair) (g w : List ℕ) (a : Head) (h h' : List ℕ) (front : Front p w a h h') (groups : length g ≡ joint p) where
+module _ {p : Pair} {w : List ℕ} {a : Head} {h h' : List ℕ} (front : Front p w a h h') (g : List ℕ) (groups : length g ≡ joint p) where
   abbrev none : Head
   none = record { used = 0; most = a.most }
 
@@ -155,14 +155,11 @@ module _ (p : Pair) (g w : List ℕ) (a : Head) (h h' : List ℕ) (front : Front
     new = front.nodes;
   }
 
-  module _ (u ids : List ℕ) where
-    step_list : (z : Worked) → RoundSays p g w a u ids z → StepSays p g w a u ids z
-    step_list z k = step_by p g groups (uncounted_bare w a) u ids z (listed_after front_gains front.held _ _ (joint p) u ids z k)
+  module _ (u : List ℕ) (b : Head) (ids : List ℕ) where
+    pub step_says : (z : Result (Unit {0}) Full) → RoundSays p g w a u b ids z → StepSays p g w a u b ids z
+    step_says z k = step_by p g groups (uncounted_bare w a) u b ids z (listed_after front_gains front.held _ _ (joint p) u b ids z k)
 
-    step_holds : (z : Worked) → RoundSays p g w a u ids z → HoldsDone w a u z
-    unfolding ListFills HoldsDone
-    step_holds (Done b) k = record { ready = gains_ready k.gains; keeps = k.gains.keeps }
-    step_holds (Over b) k = tt
-
-    pub step_says : (z : Worked) → RoundSays p g w a u ids z → StepSays p g w a u ids z × HoldsDone w a u z
-    step_says z k = (step_list z k, step_holds z k)
+    pub step_holds : (z : Result (Unit {0}) Full) → RoundSays p g w a u b ids z → OnOk z (Holds w a u b)
+    unfolding ListFills
+    step_holds (Ok done) k = record { ready = gains_ready k.gains; keeps = k.gains.keeps }
+    step_holds (Err full) k = tt

@@ -1,5 +1,6 @@
 -- What it is to work a list of two sheets in the table. Assumes nothing.
-use Rattle.std.specs.Prelude.{◌≡◌, List, ◌↔◌, ℕ, ◌*◌, ◌≤◌, ◌<◌, max, length, get_or, if◌then◌else◌}
+use Rattle.std.specs.Prelude.{◌≡◌, List, ◌↔◌, ℕ, ◌*◌, ◌≤◌, ◌<◌, max, length, get_or, false, Result, Ok, Err}
+use Rattle.arrayvec.specs.ArrayVec.{array_vec_len}
 use Rattle.meaning.specs.Numbers.{max_signals}
 use Rattle.meaning.specs.Basic.{bit}
 use Rattle.meaning.specs.Sheet as paper
@@ -8,10 +9,9 @@ use Rattle.meaning.specs.Room.{start_count, step_count}
 use Rattle.promises.specs.Correspondence.{StartEqual, StepEqual}
 use Rattle.sheet.specs.Stored.{sheet_of, Whole}
 use Rattle.diagram.specs.Words.{room_of, rest_of}
+use Rattle.diagram.specs.declared.Full.{Full}
 use Rattle.diagram.specs.declared.Head.{Head}
 use Rattle.diagram.specs.Contract.{Ready, Keeps}
-use Rattle.fill.specs.declared.Worked.{Worked}
-use Rattle.fill.specs.declared.Worked.TheVariants.{Done, Over}
 use Rattle.work.specs.declared.Pair.{Pair}
 
 -- the sheets A and B of a pair, and n, the length of their joint list
@@ -28,11 +28,11 @@ joint p = total (left p) (right p)
 pub record Alike (p : Pair) : Type 0 where
   pub whole_a : Whole p.a
   pub whole_b : Whole p.b
-  pub shown_a : 0 < p.a.outputs
-  pub shown_b : 0 < p.b.outputs
+  pub shown_a : 0 < array_vec_len p.a.outputs
+  pub shown_b : 0 < array_vec_len p.b.outputs
   pub inputs : p.a.inputs ≡ p.b.inputs
   pub size : length p.plain ≡ 2 * max_signals
-  pub plain : (v : ℕ) → v < joint p → get_or p.plain v 0 ≡ (if bit (polarity (left p) (right p)) v then 1 else 0)
+  pub plain : (v : ℕ) → v < joint p → get_or p.plain v false ≡ bit (polarity (left p) (right p)) v
 
 -- A list of so many nodes was worked, and the table has no others: it fits, its nodes are counted, and two of n signals have one id
 -- exactly when they are the same.
@@ -50,15 +50,15 @@ pub record Exceeds (count : ℕ) (w u : List ℕ) : Type 0 where
   pub room : room_of u ≡ room_of w
   pub rest : rest_of u ≡ rest_of w
 
-unfoldable pub ListSays : ℕ → ℕ → (ℕ → ℕ → Type 0) → List ℕ → Head → List ℕ → List ℕ → Worked → Type 0
-ListSays count n Same w a u ids (Done b) = Fits count n Same w a u b ids
-ListSays count n Same w a u ids (Over b) = Exceeds count w u
+unfoldable pub ListSays : ℕ → ℕ → (ℕ → ℕ → Type 0) → List ℕ → Head → List ℕ → Head → List ℕ → Result (Unit {0}) Full → Type 0
+ListSays count n Same w a u b ids (Ok done) = Fits count n Same w a u b ids
+ListSays count n Same w a u b ids (Err full) = Exceeds count w u
 
 -- the start list; the step list of a grouping
-unfoldable pub StartSays : Pair → List ℕ → Head → List ℕ → List ℕ → Worked → Type 0
+unfoldable pub StartSays : Pair → List ℕ → Head → List ℕ → Head → List ℕ → Result (Unit {0}) Full → Type 0
 StartSays p = ListSays (start_count (left p) (right p)) (joint p) (StartEqual (left p) (right p))
 
-unfoldable pub StepSays : Pair → List ℕ → List ℕ → Head → List ℕ → List ℕ → Worked → Type 0
+unfoldable pub StepSays : Pair → List ℕ → List ℕ → Head → List ℕ → Head → List ℕ → Result (Unit {0}) Full → Type 0
 StepSays p g = ListSays (step_count (left p) (right p) g) (joint p) (StepEqual (left p) (right p) g)
 
 -- ## The table that is left, for more to be worked in it
@@ -67,11 +67,3 @@ StepSays p g = ListSays (step_count (left p) (right p) g) (joint p) (StepEqual (
 pub record Holds (w : List ℕ) (a : Head) (u : List ℕ) (b : Head) : Type 0 where
   pub ready : Ready u b
   pub keeps : Keeps w a.used u b.used
-
-unfoldable pub HoldsDone : List ℕ → Head → List ℕ → Worked → Type 0
-HoldsDone w a u (Done b) = Holds w a u b
-HoldsDone w a u (Over b) = Unit {0}
-
-unfoldable pub ReadyDone : List ℕ → Worked → Type 0
-ReadyDone u (Done b) = Ready u b
-ReadyDone u (Over b) = Unit {0}

@@ -1,20 +1,22 @@
 -- A pass over one sheet: the trees of its signals at a moment, and what is asked to make them in the table. Assumes nothing.
-use Rattle.std.specs.Prelude.{◌≡◌, Bool, true, false, List, ℕ, ◌+◌, ◌-◌, ◌<◌, ◌≤◌, length, get_or, take, eqb, if◌then◌else◌}
-use Rattle.meaning.specs.Numbers.{INPUT, REGISTER, NOT, AND, OR, XOR}
+use Rattle.std.specs.Prelude.{◌≡◌, Bool, true, false, List, ℕ, ◌+◌, ◌-◌, ◌<◌, ◌≤◌, length, get_or, take, Result}
+use Rattle.arrayvec.specs.ArrayVec.{array_vec_len}
+use Rattle.meaning.specs.Numbers.{NOT, AND}
 use Rattle.meaning.specs.Sheet as paper
 use Rattle.meaning.specs.Joint.{total, variables}
-use Rattle.tree.specs.Tree.{Tree, leaf, glue}
+use Rattle.tree.specs.Tree.{Tree, leaf, glue, combine_tree}
 use Rattle.lists.specs.Lists as lists
 use Rattle.lists.specs.Recipes.{tree_of, Side, Compatible, sheet_on, signals_before, registers_before, inputs_before}
+use Rattle.sheet.specs.declared.kind.Kind.{Kind}
+use Rattle.sheet.specs.declared.kind.Kind.TheVariants.{Input, Register, Not, And, Or, Xor}
 use Rattle.sheet.specs.declared.Sheet.{Sheet}
 use Rattle.sheet.specs.declared.Signal.{Signal}
-use Rattle.sheet.specs.Stored.{signal_of, sheet_of, Whole}
+use Rattle.sheet.specs.Stored.{number_of_kind, signal_of, sheet_of, Whole}
+use Rattle.diagram.specs.declared.Full.{Full}
 use Rattle.diagram.specs.declared.Head.{Head}
-use Rattle.diagram.specs.declared.Made.{Made}
 use Rattle.diagram.specs.declared.Op.{Op}
-use Rattle.diagram.specs.declared.Op.TheVariants.{And, Or, Xor}
-use Rattle.diagram.specs.Contract.{Says, Ready, Under}
-use Rattle.fill.specs.declared.Worked.{Worked}
+use Rattle.diagram.specs.Operation.{op_of}
+use Rattle.diagram.specs.Contract.{Gives, Ready, Under}
 use Rattle.fill.specs.Work.{Stand, Fills}
 use Rattle.fill.specs.Trees.{map_trees, trees_at}
 use Rattle.work.specs.declared.pass.Moment.{Moment}
@@ -24,7 +26,7 @@ use Rattle.work.specs.declared.pass.Pass.{Pass}
 unfoldable pub moment_of : Moment → lists.Moment
 moment_of Start = lists.start
 moment_of Now = lists.now
-moment_of Next = lists.next
+moment_of (Next now) = lists.next
 
 -- ## One signal
 
@@ -32,26 +34,24 @@ moment_of Next = lists.next
 abbrev pub variable_at : ℕ → Tree
 variable_at v = glue v (leaf false) (leaf true)
 
--- a register with its initial value and source, over the trees of f now: a constant, the next variable, or the source now
-unfoldable pub register_in : Moment → Pass → (ℕ → Tree) → Bool → ℕ → Tree
-register_in Start p f b s = leaf b
-register_in Now p f b s = variable_at p.register
-register_in Next p f b s = f (p.before + s)
+-- a register with its initial value and source, over the trees of the words of an array: a constant, the next variable, or the source now
+unfoldable pub register_in : Moment → Pass → (List ℕ → ℕ → Tree) → Bool → ℕ → Tree
+register_in Start p trees b s = leaf b
+register_in Now p trees b s = variable_at p.register
+register_in (Next now) p trees b s = trees now.now (p.before + s)
 
--- a signal, over the trees of f now and of f at the pass's own moment
-unfoldable pub signal_in : Pass → (ℕ → Tree) → (ℕ → Tree) → Signal → Tree
-signal_in p now own x = tree_of (signal_of x) (variable_at p.input) (register_in p.moment p now) (λ a. own (p.before + a))
+-- a signal, over the trees of the words of an array, and the ids of f at the pass's own moment
+unfoldable pub signal_in : Pass → (List ℕ → ℕ → Tree) → List ℕ → Signal → Tree
+signal_in p trees own x = tree_of (signal_of x) (variable_at p.input) (register_in p.moment p trees) (λ a. trees own (p.before + a))
 
--- the operation of a gate, by its kind
-unfoldable pub op_of_gate : ℕ → Op
-op_of_gate k = if eqb k AND then And else if eqb k OR then Or else Xor
-
--- the pass after a signal of kind k
-unfoldable pub passed : Pass → ℕ → Pass
-passed p k =
-    if eqb k INPUT then record { moment = p.moment; register = p.register; input = p.input - 1; before = p.before; left = p.left }
-    else if eqb k REGISTER then record { moment = p.moment; register = p.register - 1; input = p.input; before = p.before; left = p.left }
-    else p
+-- the pass after a signal of a kind
+unfoldable pub passed : Pass → Kind → Pass
+passed p Input = record { moment = p.moment; register = p.register; input = p.input - 1; before = p.before; left = p.left }
+passed p Register = record { moment = p.moment; register = p.register - 1; input = p.input; before = p.before; left = p.left }
+passed p Not = p
+passed p And = p
+passed p Or = p
+passed p Xor = p
 
 -- ## Where a pass begins
 
@@ -59,40 +59,44 @@ passed p k =
 unfoldable pub top_of_input : Moment → ℕ → ℕ
 top_of_input Start i = i + i
 top_of_input Now i = i + i
-top_of_input Next i = i
+top_of_input (Next now) i = i
 
 -- with so many variable levels and inputs, and so many registers and signals on the sides before
 unfoldable pub pass_of : Moment → ℕ → ℕ → ℕ → ℕ → Pass
 pass_of t levels inputs registers signals =
     record { moment = t; register = levels - registers; input = top_of_input t inputs; before = signals; left = levels }
 
--- ## What one signal asks and says: now has the ids of all f now, and own those of the lower signals at the pass's own moment
+-- ## What one signal asks and says: own has the ids of the lower signals at the pass's own moment
 
 -- an operand: a lower signal, whose id stands in its place
 pub record Operand (p : Pass) (w : List ℕ) (n : ℕ) (ids : List ℕ) (k : ℕ) : Type 0 where
   pub place : p.before + k < length ids
   pub under : Under w n (get_or ids (p.before + k) 0) p.left
 
-unfoldable pub RegisterAsks : Moment → Pass → Signal → List ℕ → ℕ → List ℕ → Type 0
-RegisterAsks Start p x w n now = x.a ≤ 1
-RegisterAsks Now p x w n now = (0 < p.register) × (p.register < 65536)
-RegisterAsks Next p x w n now = Operand p w n now x.b
+unfoldable pub RegisterAsks : Moment → Pass → Signal → List ℕ → ℕ → Type 0
+RegisterAsks Start p x w n = x.a ≤ 1
+RegisterAsks Now p x w n = (0 < p.register) × (p.register < 65536)
+RegisterAsks (Next now) p x w n = Operand p w n now.now x.b
 
--- the words w of the table are u afterwards
-abbrev pub RegisterSays : Pass → Signal → List ℕ → Head → List ℕ → List ℕ → Made → Type 0
-RegisterSays p x w a now u z = Says w a (register_in p.moment p (trees_at w a.used now) (eqb x.a 1) x.b) u z
-
-pub record SignalAsks (p : Pass) (x : Signal) (w : List ℕ) (a : Head) (now own : List ℕ) : Type 0 where
+pub record GateAsks (p : Pass) (x : Signal) (w : List ℕ) (a : Head) (own : List ℕ) : Type 0 where
   pub ready : Ready w a
-  pub least : INPUT ≤ x.kind
-  pub most : x.kind ≤ XOR
-  pub input : x.kind ≡ INPUT → (0 < p.input) × (p.input < 65536)
-  pub register : x.kind ≡ REGISTER → RegisterAsks p.moment p x w a.used now
-  pub first : NOT ≤ x.kind → Operand p w a.used own x.a
-  pub second : AND ≤ x.kind → Operand p w a.used own x.b
+  pub first : Operand p w a.used own x.a
+  pub second : Operand p w a.used own x.b
 
-abbrev pub SignalSays : Pass → Signal → List ℕ → Head → List ℕ → List ℕ → List ℕ → Made → Type 0
-SignalSays p x w a now own u z = Says w a (signal_in p (trees_at w a.used now) (trees_at w a.used own) x) u z
+pub record SignalAsks (p : Pass) (x : Signal) (w : List ℕ) (a : Head) (own : List ℕ) : Type 0 where
+  pub ready : Ready w a
+  pub input : x.kind ≡ Input → (0 < p.input) × (p.input < 65536)
+  pub register : x.kind ≡ Register → RegisterAsks p.moment p x w a.used
+  pub first : NOT ≤ number_of_kind x.kind → Operand p w a.used own x.a
+  pub second : AND ≤ number_of_kind x.kind → Operand p w a.used own x.b
+
+-- the table, of the words w and the head a, is u and b afterwards
+abbrev pub GateSays : Pass → Op → Signal → List ℕ → Head → List ℕ → List ℕ → Head → Result ℕ Full → Type 0
+GateSays p op x w a own u b z =
+    Gives w a (combine_tree (op_of op) (trees_at w a.used own (p.before + x.a)) (trees_at w a.used own (p.before + x.b))) u b z
+
+abbrev pub SignalSays : Pass → Signal → List ℕ → Head → List ℕ → List ℕ → Head → Result ℕ Full → Type 0
+SignalSays p x w a own u b z = Gives w a (signal_in p (trees_at w a.used) own x) u b z
 
 -- ## A side of two sheets
 
@@ -121,13 +125,13 @@ module _ (A B : paper.Sheet) where
       }
 
   -- one tick on, the ids of all f now are known
-  unfoldable pub Earlier : Moment → List ℕ → ℕ → List ℕ → Type 0
-  Earlier Start w n now = Unit {0}
-  Earlier Now w n now = Unit {0}
-  Earlier Next w n now = (length now ≡ total A B) × Stand w n now 0 (map_trees (f_tree lists.now) (total A B))
+  unfoldable pub Earlier : Moment → List ℕ → ℕ → Type 0
+  Earlier Start w n = Unit {0}
+  Earlier Now w n = Unit {0}
+  Earlier (Next now) w n = (length now.now ≡ total A B) × Stand w n now.now 0 (map_trees (f_tree lists.now) (total A B))
 
 -- the stored sheet s is on the side d of A and B, and the pass p is at its first signal
-pub record SideAsks (A B : paper.Sheet) (d : Side) (p : Pass) (s : Sheet) (w : List ℕ) (a : Head) (now : List ℕ) (places : ℕ) : Type 0 where
+pub record SideAsks (A B : paper.Sheet) (d : Side) (p : Pass) (s : Sheet) (w : List ℕ) (a : Head) (places : ℕ) : Type 0 where
   pub ready : Ready w a
   pub compatible : Compatible A B
   pub whole : Whole s
@@ -135,13 +139,13 @@ pub record SideAsks (A B : paper.Sheet) (d : Side) (p : Pass) (s : Sheet) (w : L
   pub begins : p ≡ pass_at A B p.moment d 0
   pub levels : variables A B < 65536
   pub places_for : total A B ≤ places
-  pub earlier : Earlier A B p.moment w a.used now
+  pub earlier : Earlier A B p.moment w a.used
 
-unfoldable pub SheetAsks : Pass → Sheet → List ℕ → Head → List ℕ → ℕ → Type 0
-SheetAsks p s w a now places = (A : paper.Sheet) × (B : paper.Sheet) × (d : Side) × SideAsks A B d p s w a now places
+unfoldable pub SheetAsks : Pass → Sheet → List ℕ → Head → ℕ → Type 0
+SheetAsks p s w a places = (A : paper.Sheet) × (B : paper.Sheet) × (d : Side) × SideAsks A B d p s w a places
 
 -- whichever two sheets s is a side of: the ids of f of its signals stand from the joint number of the first of them on
-unfoldable pub SheetSays : Pass → Sheet → List ℕ → Head → List ℕ → List ℕ → List ℕ → List ℕ → Worked → Type 0
-SheetSays p s w a now old u ids z =
-    (A B : paper.Sheet) (d : Side) → SideAsks A B d p s w a now (length old)
-    → Fills w a (map_trees (side_tree A B (moment_of p.moment) d) s.signals) old (signals_before A B d) u ids z
+unfoldable pub SheetSays : Pass → Sheet → List ℕ → Head → List ℕ → List ℕ → Head → List ℕ → Result (Unit {0}) Full → Type 0
+SheetSays p s w a old u b ids z =
+    (A B : paper.Sheet) (d : Side) → SideAsks A B d p s w a (length old)
+    → Fills w a (map_trees (side_tree A B (moment_of p.moment) d) (array_vec_len s.signals)) old (signals_before A B d) u b ids z

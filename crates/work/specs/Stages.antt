@@ -1,16 +1,15 @@
 -- The lists of two sheets as lists of trees, and what it is to work a part of one. Assumes nothing.
-use Rattle.std.specs.Prelude.{◌≡◌, ◌&&◌, List, ◌++◌, ℕ, ◌+◌, ◌≤◌, ◌<◌, max, length}
+use Rattle.std.specs.Prelude.{◌≡◌, ◌&&◌, List, ◌++◌, ℕ, ◌+◌, ◌≤◌, ◌<◌, max, length, Result, Ok, Err}
 use Rattle.meaning.specs.Sheet as paper
 use Rattle.meaning.specs.Joint.{total, Q}
 use Rattle.meaning.specs.Room.{step_count}
 use Rattle.tree.specs.Tree.{Tree, combine_tree}
 use Rattle.lists.specs.Lists as lists
+use Rattle.diagram.specs.declared.Full.{Full}
 use Rattle.diagram.specs.declared.Head.{Head}
 use Rattle.diagram.specs.Words.{room_of, rest_of}
 use Rattle.diagram.specs.Table.{tree_at}
 use Rattle.diagram.specs.Contract.{Ready}
-use Rattle.fill.specs.declared.Worked.{Worked}
-use Rattle.fill.specs.declared.Worked.TheVariants.{Done, Over}
 use Rattle.fill.specs.Work.{PartOf, Gains, Misses, Is, Stand}
 use Rattle.fill.specs.Trees.{map_trees, equal_trees}
 use Rattle.work.specs.declared.Pair.{Pair}
@@ -61,21 +60,21 @@ pub record Listed (w : List ℕ) (a : Head) (ts : List Tree) (t : ℕ → Tree) 
   pub size : length ids ≡ k
 
 -- or there is no room for it
-unfoldable pub ListFills : List ℕ → Head → List Tree → (ℕ → Tree) → ℕ → List ℕ → List ℕ → Worked → Type 0
-ListFills w a ts t k u ids (Done b) = Listed w a ts t k u b ids
-ListFills w a ts t k u ids (Over b) = Misses w a ts u b
+unfoldable pub ListFills : List ℕ → Head → List Tree → (ℕ → Tree) → ℕ → List ℕ → Head → List ℕ → Result (Unit {0}) Full → Type 0
+ListFills w a ts t k u b ids (Ok done) = Listed w a ts t k u b ids
+ListFills w a ts t k u b ids (Err full) = Misses w a ts u b
 
 -- ## The joint list at a moment
 
 -- f of a moment: there is a place for each, and one tick on the ids of all f now are known
-pub record JointAsks (p : Pair) (t : Moment) (w : List ℕ) (a : Head) (now : List ℕ) (places : ℕ) : Type 0 where
+pub record JointAsks (p : Pair) (t : Moment) (w : List ℕ) (a : Head) (places : ℕ) : Type 0 where
   pub ready : Ready w a
   pub alike : Alike p
   pub sized : places ≡ joint p
-  pub earlier : Earlier (left p) (right p) t w a.used now
+  pub earlier : Earlier (left p) (right p) t w a.used
 
-pub record BothAsks (p : Pair) (t : Moment) (w : List ℕ) (a : Head) (now : List ℕ) (f-places h-places : ℕ) : Type 0 where
-  pub f_asks : JointAsks p t w a now f-places
+pub record BothAsks (p : Pair) (t : Moment) (w : List ℕ) (a : Head) (f-places h-places : ℕ) : Type 0 where
+  pub f_asks : JointAsks p t w a f-places
   pub h_sized : h-places ≡ joint p
 
 -- f and h of a moment are worked, and their ids stand in two arrays
@@ -86,9 +85,9 @@ pub record Both (p : Pair) (t : Moment) (w : List ℕ) (a : Head) (u : List ℕ)
   pub f_size : length fs ≡ joint p
   pub h_size : length hs ≡ joint p
 
-unfoldable pub BothSays : Pair → Moment → List ℕ → Head → List ℕ → List ℕ → List ℕ → Worked → Type 0
-BothSays p t w a u fs hs (Done b) = Both p t w a u b fs hs
-BothSays p t w a u fs hs (Over b) = Misses w a (both_trees (left p) (right p) (moment_of t)) u b
+unfoldable pub BothSays : Pair → Moment → List ℕ → Head → List ℕ → Head → List ℕ → List ℕ → Result (Unit {0}) Full → Type 0
+BothSays p t w a u b fs hs (Ok done) = Both p t w a u b fs hs
+BothSays p t w a u b fs hs (Err full) = Misses w a (both_trees (left p) (right p) (moment_of t)) u b
 
 -- ## The front of the step list
 
@@ -111,11 +110,11 @@ pub record FrontDone (p : Pair) (w : List ℕ) (a : Head) (u : List ℕ) (b : He
   pub rest : rest_of u ≡ rest_of w
 
 -- or every step list counts more nodes than there is room for
-unfoldable pub FrontSays : Pair → List ℕ → Head → List ℕ → List ℕ → List ℕ → Worked → Type 0
-FrontSays p w a u h h' (Done b) = FrontDone p w a u b h h'
-FrontSays p w a u h h' (Over b) = (g : List ℕ) → length g ≡ joint p → Exceeds (step_count (left p) (right p) g) w u
+unfoldable pub FrontSays : Pair → List ℕ → Head → List ℕ → Head → List ℕ → List ℕ → Result (Unit {0}) Full → Type 0
+FrontSays p w a u b h h' (Ok done) = FrontDone p w a u b h h'
+FrontSays p w a u b h h' (Err full) = (g : List ℕ) → length g ≡ joint p → Exceeds (step_count (left p) (right p) g) w u
 
 -- ## What a grouping adds to it
 
-abbrev pub RoundSays : Pair → List ℕ → List ℕ → Head → List ℕ → List ℕ → Worked → Type 0
-RoundSays p g w a u ids z = ListFills w a (round_trees (left p) (right p) g) (times_tree (left p) (right p) g) (joint p) u ids z
+abbrev pub RoundSays : Pair → List ℕ → List ℕ → Head → List ℕ → Head → List ℕ → Result (Unit {0}) Full → Type 0
+RoundSays p g w a u b ids z = ListFills w a (round_trees (left p) (right p) g) (times_tree (left p) (right p) g) (joint p) u b ids z

@@ -1,155 +1,134 @@
 // A pass over one sheet: f of its signals at one moment, each made of lower ones, a variable or a constant.
 ghost use Rattle.std.specs.Prelude.{◌≡◌, ◌+◌, ◌<◌, ◌≤◌, length, get_or};
-ghost use Rattle.meaning.specs.Numbers.{INPUT, REGISTER, max_inputs};
-ghost use Rattle.diagram.specs.Contract.{Ready};
-ghost use Rattle.work.specs.Passes.{op_of_gate, passed, top_of_input, pass_of, RegisterAsks, RegisterSays, SignalAsks, SignalSays, SheetAsks, SheetSays};
+ghost use Rattle.meaning.specs.Numbers.{max_inputs};
+ghost use Rattle.work.specs.Passes.{passed, top_of_input, pass_of, GateAsks, GateSays, SignalAsks, SignalSays, SheetAsks, SheetSays};
 
-use diagram::nodes::make;
-use diagram::{Head, Made, Op, combine, complement};
-use fill::{Worked, id_at, put_id, worked_of};
-use sheet::{Sheet, Signal, kind};
+use diagram::table::Table;
+use diagram::{Full, Op};
+use sheet::{Kind, Sheet, Signal};
 
-// When the joint list is looked at: in the initial state, now, or one tick on.
-#[derive(Clone, Copy)]
-pub enum Moment {
+// When the joint list is looked at: in the initial state, now, or one tick on, which reads the ids of all f now.
+#[derive(Clone, Copy, Debug, PartialEq, Eq)]
+pub enum Moment<'a> {
     Start,
     Now,
-    Next,
+    Next(&'a [u16]),
+}
+
+impl<'a> Moment<'a> {
+    // The height of the first input: one tick on, the inputs are y, below x.
+    #[tactic(auto, unfolding(crate::specs::Passes::top_of_input))]
+    fn input_top(self, inputs: usize) -> usize
+        requires { inputs ≤ max_inputs }
+        ensures { result ≡ top_of_input self.entry inputs }
+    {
+        match self {
+            Moment::Start | Moment::Now => inputs + inputs,
+            Moment::Next(_) => inputs,
+        }
+    }
 }
 
 // The moment, the heights of the variables of the next register and of the next input, the joint number of the sheet's first signal, and
 // how many variable levels there are.
 #[derive(Clone, Copy)]
-pub struct Pass {
-    pub moment: Moment,
+pub struct Pass<'a> {
+    pub moment: Moment<'a>,
     pub register: usize,
     pub input: usize,
     pub before: usize,
     pub left: usize,
 }
 
-// The height of a moment's first input: one tick on, the inputs are y, below x.
-fn input_top(moment: Moment, inputs: usize) -> usize
-    requires { inputs ≤ max_inputs }
-    ensures { result ≡ top_of_input moment inputs }
-{
-    match moment {
-        Moment::Start => inputs + inputs,
-        Moment::Now => inputs + inputs,
-        Moment::Next => inputs,
-    }
-}
-
-impl Pass {
+impl<'a> Pass<'a> {
     // A pass that begins after so many registers, and so many signals, of the joint list.
-    pub fn new(moment: Moment, left: usize, inputs: usize, registers: usize, before: usize) -> Self
+    #[tactic(auto, unfolding(crate::specs::Passes::pass_of))]
+    pub fn new(
+        moment: Moment<'a>,
+        left: usize,
+        inputs: usize,
+        registers: usize,
+        before: usize,
+    ) -> Self
         requires { (inputs ≤ max_inputs) × (registers ≤ left) }
-        ensures { result ≡ pass_of moment left inputs registers before }
+        ensures { result ≡ pass_of moment.entry left inputs registers before }
     {
-        let input = input_top(moment, inputs);
         Pass {
             moment,
             register: left - registers,
-            input,
+            input: moment.input_top(inputs),
             before,
             left,
         }
     }
 
     // After a signal: the next variable of its kind is one level lower.
-    fn past(mut self, kind: u8) -> Self
-        requires { (kind ≡ INPUT → 0 < self.input) × (kind ≡ REGISTER → 0 < self.register) }
-        ensures { result ≡ passed self kind }
+    #[tactic(auto, unfolding(crate::specs::Passes::passed))]
+    fn past(mut self, kind: Kind) -> Self
+        requires { (kind ≡ Kind.Input → 0 < self.input) × (kind ≡ Kind.Register → 0 < self.register) }
+        ensures { result ≡ passed self.entry kind }
     {
-        if kind == kind::INPUT {
-            self.input = self.input - 1;
-            return self;
-        }
-        if kind == kind::REGISTER {
-            self.register = self.register - 1;
-            return self;
+        match kind {
+            Kind::Input => self.input -= 1,
+            Kind::Register => self.register -= 1,
+            Kind::Not | Kind::And | Kind::Or | Kind::Xor => {}
         }
         self
     }
-}
 
-// The id of signal k of a sheet whose first signal has the joint number `before`.
-fn operand(ids: &[u16], before: usize, k: u8) -> usize
-    requires { before + k < length ids.now }
-    ensures { result ≡ get_or ids.now (before + k) 0 }
-{
-    id_at(ids, before + k as usize)
-}
-
-fn gate_op(kind: u8) -> Op
-    ensures { result ≡ op_of_gate kind }
-{
-    if kind == kind::AND {
-        return Op::And;
-    }
-    if kind == kind::OR {
-        return Op::Or;
-    }
-    Op::Xor
-}
-
-// A register is the constant of its initial value, a variable, or what its source is now.
-fn put_register(t: &mut [u16], head: Head, p: Pass, x: Signal, from: &[u16]) -> Made
-    requires { Ready t.old head × RegisterAsks p.moment p x t.old head.used from.now }
-    ensures { RegisterSays p x t.old head from.now t.new result }
-{
-    let moment = p.moment;
-    match moment {
-        Moment::Start => Made::Node(x.a as usize, head),
-        Moment::Now => make(t, head, p.register, 0, 1),
-        Moment::Next => Made::Node(operand(from, p.before, x.b), head),
+    // The id of signal k of the sheet.
+    fn operand(self, ids: &[u16], k: u8) -> usize
+        requires { self.before + k < length ids.now }
+        ensures { result ≡ get_or ids.now (self.entry.before + k) 0 }
+    {
+        usize::from(ids[self.before + usize::from(k)])
     }
 }
 
-// One signal: `from` has the ids of all f now, which are read one tick on, and `ids` those of the lower signals at the pass's moment.
-fn put_signal(t: &mut [u16], head: Head, p: Pass, x: Signal, from: &[u16], ids: &[u16]) -> Made
-    requires { SignalAsks p x t.old head from.now ids.now }
-    ensures { SignalSays p x t.old head from.now ids.now t.new result }
+// A gate: an operation on two lower signals.
+fn put_gate(table: &mut Table, p: Pass, op: Op, x: Signal, ids: &[u16]) -> Result<usize, Full>
+    requires { GateAsks p x table.old.words.now table.old.head ids.now }
+    ensures same_reference { table.new.words.ghost_name ≡ table.old.words.ghost_name }
+    ensures gate { GateSays p.entry op x table.old.words.now table.old.head ids.now table.new.words.now table.new.head result }
 {
-    if x.kind == kind::INPUT {
-        return make(t, head, p.input, 0, 1);
+    let a = p.operand(ids, x.a);
+    let b = p.operand(ids, x.b);
+    table.combine(op, a, b, p.left)
+}
+
+// One signal: `ids` has those of the lower signals at the pass's moment. A register is the constant of its initial value, a variable, or
+// what its source is now.
+fn put_signal(table: &mut Table, p: Pass, x: Signal, ids: &[u16]) -> Result<usize, Full>
+    requires { SignalAsks p x table.old.words.now table.old.head ids.now }
+    ensures same_reference { table.new.words.ghost_name ≡ table.old.words.ghost_name }
+    ensures signal { SignalSays p.entry x table.old.words.now table.old.head ids.now table.new.words.now table.new.head result }
+{
+    match x.kind {
+        Kind::Input => table.make(p.input, 0, 1),
+        Kind::Register => match p.moment {
+            Moment::Start => Ok(usize::from(x.a)),
+            Moment::Now => table.make(p.register, 0, 1),
+            Moment::Next(now) => Ok(p.operand(now, x.b)),
+        },
+        Kind::Not => table.complement(p.operand(ids, x.a), p.left),
+        Kind::And => put_gate(table, p, Op::And, x, ids),
+        Kind::Or => put_gate(table, p, Op::Or, x, ids),
+        Kind::Xor => put_gate(table, p, Op::Xor, x, ids),
     }
-    if x.kind == kind::REGISTER {
-        return put_register(t, head, p, x, from);
-    }
-    let a = operand(ids, p.before, x.a);
-    if x.kind == kind::NOT {
-        return complement(t, head, a, p.left);
-    }
-    let b = operand(ids, p.before, x.b);
-    combine(t, head, gate_op(x.kind), a, b, p.left)
 }
 
 // f of all signals of a sheet, their ids from its first joint number on.
-pub fn put_sheet(
-    t: &mut [u16],
-    head: Head,
-    p: Pass,
-    s: Sheet,
-    from: &[u16],
-    ids: &mut [u16],
-) -> Worked
-    requires { SheetAsks p s t.old head from.now (length ids.old) }
-    ensures { SheetSays p s t.old head from.now ids.old t.new ids.new result }
+pub fn put_sheet(table: &mut Table, p: Pass, s: &Sheet, ids: &mut [u16]) -> Result<(), Full>
+    requires { SheetAsks p s.now table.old.words.now table.old.head (length ids.old) }
+    ensures same_reference { table.new.words.ghost_name ≡ table.old.words.ghost_name }
+    ensures sheet { SheetSays p.entry s.now table.old.words.now table.old.head ids.old table.new.words.now table.new.head ids.new result }
 {
-    let mut hd = head;
-    let mut q = p;
-    let mut v = 0;
-    while v < s.signals {
-        let x = s.signal[v];
-        let made = put_signal(t, hd, q, x, from, ids);
-        let Made::Node(id, after) = made else {
-            return worked_of(made);
-        };
-        hd = after;
-        put_id(ids, p.before + v, id);
-        q = q.past(x.kind);
-        v += 1;
+    let mut here = p;
+    for (v, x) in s.signals.iter().enumerate() {
+        let id = put_signal(table, here, *x, ids)?;
+        // A cast: an id fits, and a TryFrom would bring an error that never comes.
+        ids[p.before + v] = id as u16;
+        here = here.past(x.kind);
     }
-    Worked::Done(hd)
+    Ok(())
 }

@@ -1,4 +1,3 @@
-pub mod Plain
 pub mod Polarity
 pub mod Stages
 pub mod Calling

@@ -1,4 +1,5 @@
 -- What a verdict of refine writes, and that boards with equal outputs run alike. Assumes nothing.
+use Rattle.std.specs.Prelude.{Result, Ok, Err}
 use mathlib.Core.Path.{◌≡◌, sym, ap, ◌∙◌}
 use mathlib.Core.Bool.{true, true≢false}
 use mathlib.Core.List.{List, [], ◌∷◌, ◌++◌, map}
@@ -17,20 +18,21 @@ use Rattle.promises.specs.Calls.{Files, RefineSays, too_small, no_start-room, no
 use Rattle.promises.proofs.Calls.{some_joint}
 use Rattle.promises.proofs.Refines.{rounds_only, refine_says, settled-after}
 use Rattle.promises.proofs.Promises.{grouping_bytes}
-use Rattle.answer.specs.declared.Answer.{Answer}
-use Rattle.answer.specs.declared.Answer.TheVariants.{Equivalent, Undecided, Wrote, Refused}
-use Rattle.answer.specs.Meant.{answer_of}
+use Rattle.answer.specs.declared.Done.{Done}
+use Rattle.answer.specs.declared.Done.TheVariants.{Equivalent, Undecided, Wrote}
+use Rattle.answer.specs.declared.Refused.{Refused}
+use Rattle.answer.specs.Meant.{done_of, answer_of}
 use Rattle.tick.proofs.Bits.{length_bits}
 use Rattle.yellopard.specs.Calls.{is_verdict, Refined}
 
 -- ## What refine writes
 
-not-refusal : {X : Type 0} (r : Answer) {k : paper.Refusal} {file : paper.File} {at : ℕ} → is_verdict r ≡ true → answer_of r ≡ refusal k file at → X
-unfolding is_verdict answer_of
-not-refusal (Equivalent r nodes) v e = let z : ◌≡◌ {A = ℕ} 0 1 = cc in absurd (omega arith)
-not-refusal (Undecided why i r nodes) v e = let z : ◌≡◌ {A = ℕ} 0 1 = cc in absurd (omega arith)
-not-refusal (Wrote k) v e = absurd (true≢false (sym v))
-not-refusal (Refused k file at) v e = absurd (true≢false (sym v))
+not-refusal : {X : Type 0} (r : Result Done Refused) {k : paper.Refusal} {file : paper.File} {at : ℕ} → is_verdict r ≡ true → answer_of r ≡ refusal k file at → X
+unfolding is_verdict answer_of done_of
+not-refusal (Ok (Equivalent r nodes)) v e = let z : ◌≡◌ {A = ℕ} 0 1 = cc in absurd (omega arith)
+not-refusal (Ok (Undecided why i r nodes)) v e = let z : ◌≡◌ {A = ℕ} 0 1 = cc in absurd (omega arith)
+not-refusal (Ok (Wrote k)) v e = absurd (true≢false (sym v))
+not-refusal (Err f) v e = absurd (true≢false (sym v))
 
 module _ {a b p : List ℕ} {A B : Sheet} {g : List ℕ} (files : Files a b p A B g) where
   files_onward : (next : Sheet → Sheet → List ℕ → Outcome) → with_files a b p next ≡ next A B g
@@ -47,7 +49,7 @@ module _ {a b p : List ℕ} {A B : Sheet} {g : List ℕ} (files : Files a b p A 
   some : 0 < total A B
   some = some_joint a A B files.read_a
 
-  module _ {table after old new : List ℕ} {r : Answer} (c : Refined a b p table after old new r) (v : is_verdict r ≡ true) where
+  module _ {table after old new : List ℕ} {r : Result Done Refused} (c : Refined a b p table after old new r) (v : is_verdict r ≡ true) where
     onward : refine_answer a b p (length table) (length old) ≡ refine_verdict (capacity (length table)) (length old) A B g
     unfolding refine_answer
     onward = files_onward (refine_verdict (capacity (length table)) (length old))

@@ -1,50 +1,30 @@
 // The files of a call: two sheets that are alike, with their polarities, and a grouping of their joint list.
-ghost use Rattle.std.specs.Prelude.{◌≡◌, ◌+◌, ◌≤◌, ◌<◌, length};
+ghost use Rattle.std.specs.Prelude.{◌≡◌, take};
 ghost use Rattle.work.specs.Lists.{Alike};
-ghost use Rattle.yellopard.specs.Calls.{FilesSay, PlainPut, PairAsks, ended_by};
+ghost use Rattle.yellopard.specs.Calls.{Prepared, FilesSay, PairAsks, unlike_at};
 
-use answer::{Answer, File, Refusal};
+use answer::{File, Refusal, Refused};
 use classes::read_classes;
-use sheet::{Reading, Sheet, read_sheet};
+use sheet::{Sheet, read_sheet};
 use tick::{initial, values};
 use work::Pair;
 
-// How far the files go: a grouping of n signals stands ready, or the call ends with an answer.
-#[derive(Clone, Copy)]
-pub enum Stage {
-    Ready(usize),
-    Ended(Answer),
-}
-
-impl Stage {
-    // The answer of a call that ends with its files; one that goes on has none yet.
-    pub fn answer(self) -> Answer
-        ensures { result ≡ ended_by self }
-    {
-        match self {
-            Stage::Ready(n) => Answer::Wrote(n),
-            Stage::Ended(answer) => answer,
-        }
-    }
-}
-
-// An enum cannot hold an array: the sheets and the classes stand beside the stage.
-#[derive(Clone, Copy)]
+// Two sheets that are alike, with their polarities, and the class of each of their joint signals, in the first places of an array: an
+// ArrayVec would first be filled with zeros and cut, as the classes are read into places.
+#[derive(Drop)]
 pub struct Files {
     pub pair: Pair,
+    pub signals: usize,
     pub classes: [u16; Sheet::JOINT],
-    pub stage: Stage,
 }
 
-// 1 for each value that is true, from a place on.
-fn put_plain(values: &[bool], plain: &mut [u8], from: usize, count: usize)
-    requires { (count ≤ length values.now) × (from + count ≤ length plain.old) }
-    ensures { PlainPut values.now from count plain.old plain.new }
-{
-    let mut i = 0;
-    while i < count {
-        plain[from + i] = values[i] as u8;
-        i = i + 1;
+impl Files {
+    // What the grouping says of each joint signal.
+    pub fn proposal(&self) -> &[u16]
+        requires { Prepared self.now }
+        ensures { result.now ≡ take self.now.signals self.now.classes }
+    {
+        &self.classes[..self.signals]
     }
 }
 
@@ -53,63 +33,46 @@ pub fn pair_of(a: Sheet, b: Sheet) -> Pair
     requires { PairAsks a b }
     ensures { Alike result × (result.a ≡ a) × (result.b ≡ b) }
 {
-    let mut plain = [0u8; Sheet::JOINT];
-    let in_a = values(a, initial(a), 0);
-    let in_b = values(b, initial(b), 0);
-    put_plain(&in_a, &mut plain, 0, a.signals);
-    put_plain(&in_b, &mut plain, a.signals, b.signals);
+    let in_a = values(&a, &initial(&a), 0);
+    let in_b = values(&b, &initial(&b), 0);
+    let first = a.signals.len();
+    let second = b.signals.len();
+    let mut plain = [false; Sheet::JOINT];
+    plain[..first].copy_from_slice(&in_a[..first]);
+    plain[first..first + second].copy_from_slice(&in_b[..second]);
     Pair { a, b, plain }
 }
 
-// The files of a call that ends with them: nothing stands beside the answer.
-fn ended(answer: Answer) -> Files
-    ensures { result.stage ≡ Stage.Ended answer }
+// UNLIKE: other inputs, or other outputs.
+fn unlike(at: usize) -> Refused
+    ensures { result ≡ unlike_at at }
 {
-    let sheet = Sheet::empty();
-    let pair = Pair {
-        a: sheet,
-        b: sheet,
-        plain: [0; Sheet::JOINT],
-    };
-    Files {
-        pair,
-        classes: [0; Sheet::JOINT],
-        stage: Stage::Ended(answer),
+    Refused {
+        refusal: Refusal::Unlike,
+        file: File::Nothing,
+        at,
     }
 }
 
-// A, B, UNLIKE, grouping.
-pub fn read_files(a: &[u8], b: &[u8], p: &[u8]) -> Files
+// A, B, UNLIKE, grouping. The bytes of the three files come one by one, as C lends them.
+pub fn read_files(a: &[u8], b: &[u8], p: &[u8]) -> Result<Files, Refused>
     ensures { FilesSay a.now b.now p.now result }
 {
-    let old = read_sheet(a);
-    let old_reading = old.reading;
-    let Reading::Good = old_reading else {
-        return ended(old_reading.refusal(File::A));
-    };
-    let new = read_sheet(b);
-    let new_reading = new.reading;
-    let Reading::Good = new_reading else {
-        return ended(new_reading.refusal(File::B));
-    };
-    let x = old.sheet;
-    let y = new.sheet;
-    if x.inputs != y.inputs {
-        return ended(Answer::Refused(Refusal::Unlike, File::Nothing, 0));
+    let old = read_sheet(a).map_err(|fault| fault.in_file(File::A))?;
+    let new = read_sheet(b).map_err(|fault| fault.in_file(File::B))?;
+    if old.inputs != new.inputs {
+        return Err(unlike(0));
     }
-    if x.outputs != y.outputs {
-        return ended(Answer::Refused(Refusal::Unlike, File::Nothing, 1));
+    if old.outputs.len() != new.outputs.len() {
+        return Err(unlike(1));
     }
-    let n = x.signals + y.signals;
+    let signals = old.signals.len() + new.signals.len();
     let mut classes = [0u16; Sheet::JOINT];
-    let grouping = read_classes(p, &mut classes[..n]);
-    let classes::Reading::Refused(k, at) = grouping else {
-        let pair = pair_of(x, y);
-        return Files {
-            pair,
-            classes,
-            stage: Stage::Ready(n),
-        };
-    };
-    ended(Answer::Refused(k, File::Grouping, at))
+    read_classes(p, &mut classes[..signals]).map_err(|fault| fault.in_file(File::Grouping))?;
+    let pair = pair_of(old, new);
+    Ok(Files {
+        pair,
+        signals,
+        classes,
+    })
 }

@@ -7,41 +7,37 @@ ghost use Rattle.meaning.specs.Answer.{result_after, write_answer, run_answer, c
 ghost use Rattle.answer.specs.Meant.{answer_of};
 ghost use Rattle.yellopard.specs.Calls.{row_after, Told};
 
-use answer::{Answer, file_number, number, reason_number};
+use answer::{Answer, Done, Refused};
 use sheet::write;
 use tick::run;
 use yellopard::{check, refine};
 
 // Numbers at the front of a row, as many as it has places for; how many there are.
+#[tactic(auto, using(crate::proofs::Row::front_after))]
 fn put(numbers: &[u64], row: &mut [u64]) -> usize
     ensures value { result ≡ length numbers.now }
     ensures row_after { row.new ≡ row_after numbers.now row.old }
 {
-    let mut i = 0;
-    while i < numbers.len() {
-        if i == row.len() {
-            return numbers.len();
-        }
-        row[i] = numbers[i];
-        i = i + 1;
-    }
+    let places = numbers.len().min(row.len());
+    row[..places].copy_from_slice(&numbers[..places]);
     numbers.len()
 }
 
-// The numbers of an answer, at the front of a row; how many the answer has.
+// The numbers of an answer, at the front of a row; how many the answer has. Casts, since there is no From<usize> for u64.
+#[tactic(auto, unfolding(answer::specs::Meant::answer_of, answer::specs::Meant::done_of, meaning::specs::Answer::row_of))]
 fn tell(answer: Answer, row: &mut [u64]) -> usize
     ensures { Told (answer_of answer) row.old row.new result }
 {
     match answer {
-        Answer::Equivalent(rounds, nodes) => put(&[0, 0, 0, rounds as u64, nodes as u64], row),
-        Answer::Undecided(why, i, rounds, nodes) => {
-            let reason = reason_number(why) as u64;
+        Ok(Done::Equivalent(rounds, nodes)) => put(&[0, 0, 0, rounds as u64, nodes as u64], row),
+        Ok(Done::Undecided(why, i, rounds, nodes)) => {
+            let reason = u64::from(u8::from(why));
             put(&[1, reason, i as u64, rounds as u64, nodes as u64], row)
         }
-        Answer::Wrote(k) => put(&[k as u64], row),
-        Answer::Refused(k, file, at) => {
-            let what = number(k) as u64;
-            let place = file_number(file) as u64;
+        Ok(Done::Wrote(length)) => put(&[length as u64], row),
+        Err(Refused { refusal, file, at }) => {
+            let what = u64::from(u8::from(refusal));
+            let place = u64::from(u8::from(file));
             put(&[what, place, at as u64], row)
         }
     }
@@ -52,8 +48,7 @@ pub extern "C" fn yellopard_write(a: &[u8], res: &mut [u8], row: &mut [u64]) -> 
     ensures told { Told (write_answer a.now (length res.old)).answer row.old row.new result }
     ensures res_after { res.new ≡ result_after (write_answer a.now (length res.old)) res.old }
 {
-    let answer = write(a, res);
-    tell(answer, row)
+    tell(write(a, res), row)
 }
 
 #[unsafe(no_mangle)]
@@ -61,8 +56,7 @@ pub extern "C" fn yellopard_run(a: &[u8], vectors: &[u8], res: &mut [u16], row: 
     ensures told { Told (run_answer a.now vectors.now (length res.old)).answer row.old row.new result }
     ensures res_after { res.new ≡ result_after (run_answer a.now vectors.now (length res.old)) res.old }
 {
-    let answer = run(a, vectors, res);
-    tell(answer, row)
+    tell(run(a, vectors, res), row)
 }
 
 #[unsafe(no_mangle)]
@@ -76,8 +70,7 @@ pub extern "C" fn yellopard_check(
     ensures told { Told (check_answer a.now b.now p.now (length table.old)).answer row.old row.new result }
     ensures table_after { table.new ≡ cleared table.old }
 {
-    let answer = check(table, a, b, p);
-    tell(answer, row)
+    tell(check(table, a, b, p), row)
 }
 
 #[unsafe(no_mangle)]
@@ -93,6 +86,5 @@ pub extern "C" fn yellopard_refine(
     ensures table_after { table.new ≡ cleared table.old }
     ensures res_after { res.new ≡ result_after (refine_answer a.now b.now p.now (length table.old) (length res.old)) res.old }
 {
-    let answer = refine(table, a, b, p, res);
-    tell(answer, row)
+    tell(refine(table, a, b, p, res), row)
 }

@@ -5,6 +5,7 @@ use desk::{FILE, Mode, TABLE, print_answer, read_file};
 use std::io;
 use yellopard::check;
 
+// The other program reads and prints alike. A function of both would be public in `desk`, and no contract can say what it reads and prints.
 fn main(rt: HostRuntime) -> io::Result<()> {
     let mut a = [0u8; FILE];
     let mut b = [0u8; FILE];

@@ -1,11 +1,9 @@
 -- The reading goes on while the records are CLASS records, and ends where one is not. Assumes nothing.
-use Prim.Native.Nat.{◌-◌}
-use lib.ListN.{length}
 use Rattle.classes.proofs.Judging.{Judging}
 use Rattle.classes.proofs.judge.Given as goal
 
-abbrev pub invariant-loop-reading : goal.invariant-loop-reading
-invariant-loop-reading l = Judging l.n l.file l.at l.count
-
-abbrev pub decreases-loop-reading : goal.decreases-loop-reading
-decreases-loop-reading l = length l.file - l.at
+abbrev pub invariant-loop-count : goal.invariant-loop-count
+invariant-loop-count l =
+    (goal.iterator-loop-count).can_next l.count-iterator
+    × (goal.iterator-loop-count).is_finite l.count-iterator
+    × Judging l.n l.fn.file l.count-iterator

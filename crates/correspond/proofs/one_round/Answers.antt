@@ -1,28 +1,25 @@
 -- The step list, the split, whether anything was split, and what is forgotten then. Assumes nothing.
-use mathlib.Core.Path.{sym, ◌∙◌}
-use Rattle.correspond.proofs.Pairing.{few_signals}
-use Rattle.correspond.proofs.Verdicts.{holds_done, round_over, ids_long, round_stays, round_splits}
+use native.Mathlib.Omega.{arith}
+use Rattle.std.proofs.lemmas.Result.{err_from_is_err_and}
+use Rattle.correspond.proofs.Pairing.{few_signals, places}
+use Rattle.correspond.proofs.Verdicts.{round_over, ids_long, round_stays, round_splits}
 use Rattle.correspond.proofs.one_round.Goals as goal
 
-pub returns-in_default : goal.returns-in_default
-returns-in_default c = round_over _ _ c.requires.0 _ _ _ _ _ _ c.step_list-step.ensures.0 _ _ c.in_default.is
+pub returns-in_err-step_list-clause-round : goal.returns-in_err-step_list-clause-round
+returns-in_err-step_list-clause-round c =
+    let p = err_from_is_err_and c.from_residual.result c.from_residual.ensures.1 in
+    rw (p.1, p.2) (round_over c.requires.grouped _ _ _ _ _ _ _ _ c.in_err-step_list.ensures.list)
 
 pub split-requires : goal.split-requires
 split-requires c =
-    let long = ids_long _ _ c.requires.0 _ _ _ _ _ _ c.step_list-step.ensures.0 c.in-Done.is in
-    (long, c.requires.2 ∙ sym c.requires.0.size, few_signals _ _ c.requires.0)
+    let ok = c.requires.grouped in
+    (ids_long ok c.args.normals.h.now c.args.normals.h_next.now _ _ _ _ _ _ c.in_ok-step_list.ensures.list, places ok, omega (arith, few_signals ok))
 
-pub returns-then-same_groups : goal.returns-then-same_groups
-returns-then-same_groups c =
-    round_stays _ _ c.requires.0 _ _ _ _ _ _ c.step_list-step.ensures.0 _ _ _ c.split.ensures _ c.same_groups.ensures c.in-Done.is c.if-same_groups.true
+pub returns-then-eq-clause-round : goal.returns-then-eq-clause-round
+returns-then-eq-clause-round c =
+    round_stays c.requires.grouped _ _ _ _ _ _ _ _ c.in_ok-step_list.ensures.list _ c.split.ensures _ c.eq.ensures c.if-eq.true
 
-pub forget-front-requires : goal.forget-front-requires
-forget-front-requires c =
-    let holds = holds_done _ _ _ _ _ c.in-Done.is c.step_list-step.ensures.1 in
-    (holds.ready, holds.keeps.more)
-
-pub returns : goal.returns
-returns c =
-    let holds = holds_done _ _ _ _ _ c.in-Done.is c.step_list-step.ensures.1 in
-    round_splits _ _ c.requires.0 _ _ _ _ _ _ c.step_list-step.ensures.0 _ _ _ c.split.ensures _ c.same_groups.ensures c.in-Done.is
-    c.if-same_groups.false _ c.copy.ensures c.requires.3 holds _ _ c.forget-front.ensures
+pub returns-clause-round : goal.returns-clause-round
+returns-clause-round c =
+    round_splits c.requires.grouped _ _ _ _ _ _ _ _ c.in_ok-step_list.ensures.list _ c.split.ensures _ c.eq.ensures
+    c.if-eq.false _ c.copy_from_slice.ensures.after c.requires.front c.in_ok-step_list.ensures.holds _ _ c.forget.ensures.forgets

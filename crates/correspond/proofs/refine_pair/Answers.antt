@@ -1,85 +1,51 @@
 -- Stage by stage. Assumes nothing.
-use mathlib.Core.Path.{sym, ◌∙◌}
-use native.Mathlib.Omega.{arith}
-use Rattle.correspond.proofs.Pairing.{few_signals}
-use Rattle.correspond.proofs.Verdicts.{front_done, front_over, ready_done}
-use Rattle.correspond.proofs.Refining.{refine_no_start, start_long, begun, refine_no_front, fronted, settled_long, over_few, refine_over, refine-after}
+use Rattle.std.proofs.Common.{rules}
+use Rattle.std.proofs.lemmas.Result.{err_from_is_err_and}
+use mathlib.Core.Path.{refl}
+use Rattle.work.specs.Stages.{FrontSays}
+use Rattle.correspond.proofs.Refining.{refine_lent, refine_no_start, begun, refine_no_front, Fronted, fronted, settled_grouped, refine_over, refine-after}
 use Rattle.correspond.proofs.refine_pair.Goals as goal
+use Rattle.correspond.proofs.refine_pair.Goals.{In-Ok-front_list}
+
+-- the front of the step lists is worked
+second : (c : In-Ok-front_list)
+    → Fronted c.requires.grouped c.new-table.result.words.now c.front_list.new.table.words.now c.split.new.out c.front_list.new.table.head
+unfolding FrontSays
+second c =
+    let s = begun c.requires.grouped _ _ _ _ _ _ c.in-Ok.ensures.list c.new-table.ensures.head.1 c.split.ensures in
+    fronted c.requires.grouped _ s c.in-Ok-front_list.ensures.front
 
 pub returns-in_default : goal.returns-in_default
 returns-in_default c =
-    rw c.no_room.ensures (refine_no_start _ _ c.requires.0 _ _ _ _ _ _ _ c.start_list-start.ensures.0 c.in_default.is c.requires.1)
+    rw c.no_room.ensures
+    (refine_lent c.new-table.ensures.words (search rules)
+    (refine_no_start c.requires.grouped _ _ _ _ _ _ c.in_default.ensures.list c.requires.sized))
 
-pub split-requires : goal.split-requires
-split-requires c =
-    let ok = c.requires.0 in
-    (start_long _ _ ok _ _ _ _ _ _ c.start_list-start.ensures.0 c.in-Done.is ∙ sym ok.size, c.requires.1 ∙ sym ok.size, few_signals _ _ ok)
+pub returns-in_default-front_list : goal.returns-in_default-front_list
+returns-in_default-front_list c =
+    let s = begun c.requires.grouped _ _ _ _ _ _ c.in-Ok.ensures.list c.new-table.ensures.head.1 c.split.ensures in
+    rw c.no_room-in_default-front_list.ensures
+    (refine_lent c.new-table.ensures.words (search rules) (refine_no_front c.requires.grouped _ s _ _ _ _ _ c.in_default-front_list.ensures.front))
 
-pub front_list-begun-requires : goal.front_list-begun-requires
-front_list-begun-requires c =
-    (c.requires.0.alike, ready_done _ _ _ c.in-Done.is c.start_list-start.ensures.1, c.requires.4, c.requires.5)
+pub settle-requires : goal.settle-requires
+unfolding FrontSays
+settle-requires c =
+    let s = second (goal.at.settle-requires c).In-Ok-front_list in
+    record { grouped = s.grouped; front = c.in-Ok-front_list.ensures.front.front }
 
-pub returns-in_default-begun : goal.returns-in_default-begun
-returns-in_default-begun c =
-    let ok = c.requires.0 in
-    let first = begun _ _ ok _ _ _ _ _ _ _ c.start_list-start.ensures.0 c.in-Done.is c.new.ensures.1 c.split.ensures in
-    rw c.no_room-in_default-begun.ensures (refine_no_front _ _ ok _ _ _ _ first _ (front_over _ _ _ _ _ _ _ _ c.in_default-begun.is c.front_list-begun.ensures))
-
-pub settle-ended-requires : goal.settle-ended-requires
-settle-ended-requires c =
-    let ok = c.requires.0 in
-    let first = begun _ _ ok _ _ _ _ _ _ _ c.start_list-start.ensures.0 c.in-Done.is c.new.ensures.1 c.split.ensures in
-    let front-is = front_done _ _ _ _ _ _ _ _ c.in-Done-begun.is c.front_list-begun.ensures in
-    let second = fronted _ _ ok _ _ _ _ first _ _ _ _ front-is in (
-      record { alike = ok.alike; some = ok.some; outputs = ok.outputs; size = second.size },
-      start_long _ _ ok _ _ _ _ _ _ c.start_list-start.ensures.0 c.in-Done.is,
-      c.requires.3,
-      front-is.front,
-    )
-
-pub overflow_add-list : goal.overflow_add-list
-overflow_add-list c =
-    let ok = c.requires.0 in
-    let first = begun _ _ ok _ _ _ _ _ _ _ c.start_list-start.ensures.0 c.in-Done.is c.new.ensures.1 c.split.ensures in
-    let front-is = front_done _ _ _ _ _ _ _ _ c.in-Done-begun.is c.front_list-begun.ensures in
-    let second = fronted _ _ ok _ _ _ _ first _ _ _ _ front-is in
-    omega (arith, over_few _ _ ok _ _ _ _ second _ _ _ c.settle-ended.ensures _ c.in-Over.is)
+pub returns-in_err-rounds : goal.returns-in_err-rounds
+returns-in_err-rounds c =
+    let s = second (goal.at.returns-in_err-rounds c).In-Ok-front_list in
+    let p = err_from_is_err_and c.from_residual.result c.from_residual.ensures.1 in
+    rw (p.1, p.2) (refine_lent c.new-table.ensures.words (search rules) (refine_over c.requires.grouped _ s c.in_err-rounds.ensures.settled refl))
 
 pub outputs-requires : goal.outputs-requires
 outputs-requires c =
-    let ok = c.requires.0 in
-    let first = begun _ _ ok _ _ _ _ _ _ _ c.start_list-start.ensures.0 c.in-Done.is c.new.ensures.1 c.split.ensures in
-    let front-is = front_done _ _ _ _ _ _ _ _ c.in-Done-begun.is c.front_list-begun.ensures in
-    let second = fronted _ _ ok _ _ _ _ first _ _ _ _ front-is in
-    record { alike = ok.alike; some = ok.some; outputs = ok.outputs; size = settled_long _ _ ok _ _ _ _ second _ _ _ c.settle-ended.ensures }
+    let s = second (goal.at.outputs-requires c).In-Ok-front_list in
+    settled_grouped c.requires.grouped _ s c.in_ok-rounds.ensures.settled
 
-pub shape_of-t-in-Over : goal.shape_of-t-in-Over
-shape_of-t-in-Over c = c.settle-ended.auto.t ∙ c.front_list-begun.auto.t ∙ c.start_list-start.auto.t
-
-pub shape_of-ids-in-Over : goal.shape_of-ids-in-Over
-shape_of-ids-in-Over c = c.settle-ended.auto.ids ∙ c.start_list-start.auto.ids
-
-pub returns-in-Over : goal.returns-in-Over
-returns-in-Over c =
-    let ok = c.requires.0 in
-    let first = begun _ _ ok _ _ _ _ _ _ _ c.start_list-start.ensures.0 c.in-Done.is c.new.ensures.1 c.split.ensures in
-    let front-is = front_done _ _ _ _ _ _ _ _ c.in-Done-begun.is c.front_list-begun.ensures in
-    let second = fronted _ _ ok _ _ _ _ first _ _ _ _ front-is in
-    rw c.no_room-in-Over.ensures (refine_over _ _ ok _ _ _ _ second _ _ _ c.settle-ended.ensures _ c.in-Over.is)
-
-pub shape_of-t-in-After : goal.shape_of-t-in-After
-shape_of-t-in-After c = c.settle-ended.auto.t ∙ c.front_list-begun.auto.t ∙ c.start_list-start.auto.t
-
-pub shape_of-g-in-After : goal.shape_of-g-in-After
-shape_of-g-in-After c = c.settle-ended.auto.g ∙ c.split.auto.out
-
-pub shape_of-ids-in-After : goal.shape_of-ids-in-After
-shape_of-ids-in-After c = c.settle-ended.auto.ids ∙ c.start_list-start.auto.ids
-
-pub returns-in-After : goal.returns-in-After
-returns-in-After c =
-    let ok = c.requires.0 in
-    let first = begun _ _ ok _ _ _ _ _ _ _ c.start_list-start.ensures.0 c.in-Done.is c.new.ensures.1 c.split.ensures in
-    let front-is = front_done _ _ _ _ _ _ _ _ c.in-Done-begun.is c.front_list-begun.ensures in
-    let second = fronted _ _ ok _ _ _ _ first _ _ _ _ front-is in
-    refine-after _ _ ok _ _ _ _ second _ _ _ c.settle-ended.ensures _ _ c.in-After.is _ c.outputs.ensures
+pub returns : goal.returns
+returns c =
+    let s = second (goal.at.returns c).In-Ok-front_list in
+    refine_lent c.new-table.ensures.words (search rules)
+    (refine-after c.requires.grouped _ s c.in_ok-rounds.ensures.settled refl c.outputs.ensures)

@@ -1,154 +1,128 @@
-use Rattle.std.proofs.Common.{◌≤◌, arith}
+use Rattle.std.proofs.Common.{ℕ, arith}
+use Rattle.std.proofs.lemmas.Result.{err_from_is_err_and}
 use Rattle.diagram.specs.Operation.{op_of}
 use Rattle.diagram.specs.Table.{combined}
-use Rattle.diagram.specs.Contract.{Has, Says, Early, Goes, Planned}
-use Rattle.diagram.proofs.Combining.{known_has, early_has, top_left, low_asks, low_full, high_asks, high_full, finish_asks, finished}
+use Rattle.diagram.specs.Contract.{Has, Says, Early, Recalled}
+use Rattle.diagram.proofs.Codes.{code_small}
+use Rattle.diagram.proofs.Early.{slot_asks}
+use Rattle.diagram.proofs.Combining.{known_has, early_has, some_left, low_asks, low_full, high_asks, high_full, make_asks, finished}
+use Rattle.diagram.proofs.Noting.{note_asks, has_noted}
 use Rattle.diagram.proofs.+combine_from.Goals as goal
-use Rattle.diagram.proofs.+combine_from.Goals.{in-Is, in-Miss, in-Is-early, in-Miss-early}
+use Rattle.diagram.proofs.+combine_from.Goals.{After-early-2, After-make_in, in-Some-early, in-None+in_ok-low-in-None, in-Some-early-2, in-None-early+in_ok-high-in-None-early}
+
+-- the low branches have their node
+low_has : (t : ℕ) (c : After-early-2 t) → Has c.args.t.now (record { used = c.args.used; most = c.args.most })
+    (combined c.args.t.now c.args.used (op_of c.args.op) c.split-s.result.a.low c.split-s.result.b.low) c.match-early.t c.match-early.low.head c.match-early.low.id
+unfolding Says
+low_has t c = elim c.match-early.branch [
+  | in-Some-early w ↦
+      rw (w.t-is, w.low-is)
+      (early_has _ _ c.args.op _ _ _ _ (low_asks _ _ c.args.op _ _ _ _ c.requires.0 c.requires.1 c.split-s.ensures) w.in-Some-early.ensures)
+  | in-None+in_ok-low-in-None w ↦ rw (w.t-is, w.low-is) w.in_ok-low-in-None.ensures
+]
+
+-- so what the last node gives is the answer
+made_is : (t : ℕ) (c : After-make_in t) → Has c.args.t.now (record { used = c.args.used; most = c.args.most })
+    (combined c.args.t.now c.args.used (op_of c.args.op) c.split-s.result.a.low c.split-s.result.b.low) c.match-early.t c.match-early.low.head c.match-early.low.id
+    → Says c.args.t.now (record { used = c.args.used; most = c.args.most }) (combined c.args.t.now c.args.used (op_of c.args.op) c.args.a c.args.b)
+    c.make_in.new.t c.make_in.result
+unfolding Says
+made_is t c low =
+    let high : Has c.match-early.t c.match-early.low.head
+    (combined c.match-early.t c.match-early.low.head.used (op_of c.args.op) c.split-s.result.a.high c.split-s.result.b.high)
+    c.match-early-2.t c.match-early-2.high.head c.match-early-2.high.id =
+    elim c.match-early-2.branch [
+      | in-Some-early-2 w ↦
+          rw (w.t-is, w.high-is)
+          (early_has _ _ c.args.op _ _ _ _ (high_asks _ _ c.args.op _ _ _ _ c.requires.0 c.requires.1 c.split-s.ensures _ _ _ low) w.in-Some-early-2.ensures)
+      | in-None-early+in_ok-high-in-None-early w ↦ rw (w.t-is, w.high-is) w.in_ok-high-in-None-early.ensures
+    ] in
+    finished _ _ c.args.op _ _ _ _ c.requires.0 c.requires.1 c.split-s.ensures _ _ _ low _ _ _ high _ _ c.make_in.ensures
+
+pub hashed-slot-requires : goal.hashed-slot-requires
+hashed-slot-requires t c =
+    let ask = c.requires.0 in
+    slot_asks _ _ _ _ ask.ready.good ask.first.id ask.second.id c.requires.1 _ _ (omega (arith, c.from.ensures, code_small c.args.op)) c.requires.2
+
+pub returns-in-Some : goal.returns-in-Some
+unfolding Says Recalled
+returns-in-Some t c = known_has _ _ c.args.op _ _ _ c.requires.0.ready c.in-Some.ensures
 
 pub overflow_sub-left : goal.overflow_sub-left
-unfolding Planned
-overflow_sub-left t c =
-    let go : Goes c.args.t.now c.args.used c.args.a c.args.b c.in-Split.s = rw c.in-Split.is at c.begin.ensures in
-    let levels_left : 1 ≤ c.args.left = omega (arith, top_left _ _ c.args.op _ _ _ _ c.requires.0 go, go.some) in
-    levels_left
+overflow_sub-left t c = some_left _ _ c.args.op _ _ _ _ c.requires.0 c.requires.1 c.split-s.ensures
 
-pub combine_from-low-requires : goal.combine_from-low-requires
-unfolding Planned Early
-combine_from-low-requires t c =
-    let go : Goes c.args.t.now c.args.used c.args.a c.args.b c.in-Split.s = rw c.in-Split.is at c.begin.ensures in
-    let levels_left : 1 ≤ c.args.left = omega (arith, top_left _ _ c.args.op _ _ _ _ c.requires.0 go, go.some) in (
-      omega (arith, c.decreases, levels_left),
-      (low_asks _ _ c.args.op _ _ _ _ c.requires.0 go, rw c.in-Miss.is at c.early.ensures, c.requires.2),
-    )
+pub combine_from-requires : goal.combine_from-requires
+unfolding Early
+combine_from-requires t c =
+    let some = some_left _ _ c.args.op _ _ _ _ c.requires.0 c.requires.1 c.split-s.ensures in
+    (omega (arith, c.decreases), (low_asks _ _ c.args.op _ _ _ _ c.requires.0 c.requires.1 c.split-s.ensures, c.in-None.ensures, c.requires.2))
 
-pub returns-in_default : goal.returns-in_default
-unfolding Planned Says
-returns-in_default t c =
-    let go : Goes c.args.t.now c.args.used c.args.a c.args.b c.in-Split.s = rw c.in-Split.is at c.begin.ensures in
-    let low_says : Says c.args.t.now (record { used = c.args.used; most = c.args.most })
-    (combined c.args.t.now c.args.used (op_of c.args.op) c.in-Split.s.a.low c.in-Split.s.b.low) c.match-early.t c.match-early.low =
-    elim c.match-early.branch [
-      | in-Is w ↦
-          rw (w.t-is, w.low-is) (early_has _ _ c.args.op _ _ _ _ (low_asks _ _ c.args.op _ _ _ _ c.requires.0 go) (rw w.in-Is.is at c.early.ensures))
-      | in-Miss w ↦ rw (w.t-is, w.low-is) w.combine_from-low.ensures
-    ] in
-    rw c.in_default.is (low_full _ _ c.args.op _ _ _ _ c.requires.0 go _ _ (rw c.in_default.is at low_says))
+pub returns-in_err-low-in-None : goal.returns-in_err-low-in-None
+unfolding Says
+returns-in_err-low-in-None t c =
+    let p = err_from_is_err_and c.from_residual.result c.from_residual.ensures.1 in
+    rw (p.1, p.2) (low_full _ _ c.args.op _ _ _ _ c.requires.0 c.requires.1 c.split-s.ensures _ _ c.in_err-low-in-None.ensures)
 
-pub overflow_sub-left-in-Miss-early : goal.overflow_sub-left-in-Miss-early
-unfolding Planned
-overflow_sub-left-in-Miss-early t c =
-    let go : Goes c.args.t.now c.args.used c.args.a c.args.b c.in-Split.s = rw c.in-Split.is at c.begin.ensures in
-    let levels_left : 1 ≤ c.args.left = omega (arith, top_left _ _ c.args.op _ _ _ _ c.requires.0 go, go.some) in
-    levels_left
+pub overflow_sub-left-in-None-early : goal.overflow_sub-left-in-None-early
+overflow_sub-left-in-None-early t c = some_left _ _ c.args.op _ _ _ _ c.requires.0 c.requires.1 c.split-s.ensures
 
-pub combine_from-high-requires : goal.combine_from-high-requires
-unfolding Planned Says Early
-combine_from-high-requires t c =
-    let go : Goes c.args.t.now c.args.used c.args.a c.args.b c.in-Split.s = rw c.in-Split.is at c.begin.ensures in
-    let low_says : Says c.args.t.now (record { used = c.args.used; most = c.args.most })
-    (combined c.args.t.now c.args.used (op_of c.args.op) c.in-Split.s.a.low c.in-Split.s.b.low) c.match-early.t c.match-early.low =
-    elim c.match-early.branch [
-      | in-Is w ↦
-          rw (w.t-is, w.low-is) (early_has _ _ c.args.op _ _ _ _ (low_asks _ _ c.args.op _ _ _ _ c.requires.0 go) (rw w.in-Is.is at c.early.ensures))
-      | in-Miss w ↦ rw (w.t-is, w.low-is) w.combine_from-low.ensures
-    ] in
-    let low_has : Has c.args.t.now (record { used = c.args.used; most = c.args.most })
-    (combined c.args.t.now c.args.used (op_of c.args.op) c.in-Split.s.a.low c.in-Split.s.b.low) c.match-early.t c.in-Node.after c.in-Node.l =
-    rw c.in-Node.is at low_says in
-    let levels_left : 1 ≤ c.args.left = omega (arith, top_left _ _ c.args.op _ _ _ _ c.requires.0 go, go.some) in (
-      omega (arith, c.decreases, levels_left),
+pub combine_from-requires-in-None-early : goal.combine_from-requires-in-None-early
+unfolding Early
+combine_from-requires-in-None-early t c =
+    let some = some_left _ _ c.args.op _ _ _ _ c.requires.0 c.requires.1 c.split-s.ensures in
+    let low = low_has t (goal.at.combine_from-requires-in-None-early t c).After-early-2 in (
+      omega (arith, c.decreases),
       (
-        high_asks _ _ c.args.op _ _ _ _ c.requires.0 go _ _ _ low_has,
-        rw c.in-Miss-early.is at c.early-in-Split.ensures,
-        omega (arith, c.requires.2, low_has.grown.room),
+        high_asks _ _ c.args.op _ _ _ _ c.requires.0 c.requires.1 c.split-s.ensures _ _ _ low,
+        c.in-None-early.ensures,
+        omega (arith, c.requires.2, low.grown.room),
       ),
     )
 
-pub returns-in_default-high : goal.returns-in_default-high
-unfolding Planned Says
-returns-in_default-high t c =
-    let go : Goes c.args.t.now c.args.used c.args.a c.args.b c.in-Split.s = rw c.in-Split.is at c.begin.ensures in
-    let low_says : Says c.args.t.now (record { used = c.args.used; most = c.args.most })
-    (combined c.args.t.now c.args.used (op_of c.args.op) c.in-Split.s.a.low c.in-Split.s.b.low) c.match-early.t c.match-early.low =
-    elim c.match-early.branch [
-      | in-Is w ↦
-          rw (w.t-is, w.low-is) (early_has _ _ c.args.op _ _ _ _ (low_asks _ _ c.args.op _ _ _ _ c.requires.0 go) (rw w.in-Is.is at c.early.ensures))
-      | in-Miss w ↦ rw (w.t-is, w.low-is) w.combine_from-low.ensures
-    ] in
-    let low_has : Has c.args.t.now (record { used = c.args.used; most = c.args.most })
-    (combined c.args.t.now c.args.used (op_of c.args.op) c.in-Split.s.a.low c.in-Split.s.b.low) c.match-early.t c.in-Node.after c.in-Node.l =
-    rw c.in-Node.is at low_says in
-    let high_says : Says c.match-early.t c.in-Node.after
-    (combined c.match-early.t c.in-Node.after.used (op_of c.args.op) c.in-Split.s.a.high c.in-Split.s.b.high) c.match-early-2.t c.match-early-2.high =
-    elim c.match-early-2.branch [
-      | in-Is-early w ↦
-          rw (w.t-is, w.high-is)
-          (early_has _ _ c.args.op _ _ _ _ (high_asks _ _ c.args.op _ _ _ _ c.requires.0 go _ _ _ low_has) (rw w.in-Is-early.is at c.early-in-Split.ensures))
-      | in-Miss-early w ↦ rw (w.t-is, w.high-is) w.combine_from-high.ensures
-    ] in
-    rw c.in_default-high.is
-    (high_full _ _ c.args.op _ _ _ _ c.requires.0 go _ _ _ low_has _ _ (rw c.in_default-high.is at high_says))
+pub returns-in_err-high-in-None-early : goal.returns-in_err-high-in-None-early
+unfolding Says
+returns-in_err-high-in-None-early t c =
+    let low = low_has t (goal.at.returns-in_err-high-in-None-early t c).After-early-2 in
+    let p = err_from_is_err_and c.from_residual-in_err-high-in-None-early.result c.from_residual-in_err-high-in-None-early.ensures.1 in
+    rw (p.1, p.2) (high_full _ _ c.args.op _ _ _ _ c.requires.0 c.requires.1 c.split-s.ensures _ _ _ low _ _ c.in_err-high-in-None-early.ensures)
 
-pub finish-requires : goal.finish-requires
-unfolding Planned Says
-finish-requires t c =
-    let go : Goes c.args.t.now c.args.used c.args.a c.args.b c.in-Split.s = rw c.in-Split.is at c.begin.ensures in
-    let low_says : Says c.args.t.now (record { used = c.args.used; most = c.args.most })
-    (combined c.args.t.now c.args.used (op_of c.args.op) c.in-Split.s.a.low c.in-Split.s.b.low) c.match-early.t c.match-early.low =
-    elim c.match-early.branch [
-      | in-Is w ↦
-          rw (w.t-is, w.low-is) (early_has _ _ c.args.op _ _ _ _ (low_asks _ _ c.args.op _ _ _ _ c.requires.0 go) (rw w.in-Is.is at c.early.ensures))
-      | in-Miss w ↦ rw (w.t-is, w.low-is) w.combine_from-low.ensures
-    ] in
-    let low_has : Has c.args.t.now (record { used = c.args.used; most = c.args.most })
-    (combined c.args.t.now c.args.used (op_of c.args.op) c.in-Split.s.a.low c.in-Split.s.b.low) c.match-early.t c.in-Node.after c.in-Node.l =
-    rw c.in-Node.is at low_says in
-    let high_says : Says c.match-early.t c.in-Node.after
-    (combined c.match-early.t c.in-Node.after.used (op_of c.args.op) c.in-Split.s.a.high c.in-Split.s.b.high) c.match-early-2.t c.match-early-2.high =
+pub make_in-requires : goal.make_in-requires
+unfolding Says
+make_in-requires t c =
+    let low = low_has t (goal.at.make_in-requires t c).After-early-2 in
+    let high : Has c.match-early.t c.match-early.low.head
+    (combined c.match-early.t c.match-early.low.head.used (op_of c.args.op) c.split-s.result.a.high c.split-s.result.b.high)
+    c.match-early-2.t c.match-early-2.high.head c.match-early-2.high.id =
     elim c.match-early-2.branch [
-      | in-Is-early w ↦
+      | in-Some-early-2 w ↦
           rw (w.t-is, w.high-is)
-          (early_has _ _ c.args.op _ _ _ _ (high_asks _ _ c.args.op _ _ _ _ c.requires.0 go _ _ _ low_has) (rw w.in-Is-early.is at c.early-in-Split.ensures))
-      | in-Miss-early w ↦ rw (w.t-is, w.high-is) w.combine_from-high.ensures
-    ] in
-    let high_has : Has c.match-early.t c.in-Node.after
-    (combined c.match-early.t c.in-Node.after.used (op_of c.args.op) c.in-Split.s.a.high c.in-Split.s.b.high)
-    c.match-early-2.t c.in-Node-high.last c.in-Node-high.h =
-    rw c.in-Node-high.is at high_says in (
-      finish_asks _ _ c.args.op _ _ _ _ c.requires.0 go _ _ _ low_has _ _ _ high_has,
-      omega (arith, c.requires.2, low_has.grown.room, high_has.grown.room),
+          (early_has _ _ c.args.op _ _ _ _ (high_asks _ _ c.args.op _ _ _ _ c.requires.0 c.requires.1 c.split-s.ensures _ _ _ low) w.in-Some-early-2.ensures)
+      | in-None-early+in_ok-high-in-None-early w ↦ rw (w.t-is, w.high-is) w.in_ok-high-in-None-early.ensures
+    ] in (
+      make_asks _ _ c.args.op _ _ _ _ c.requires.0 c.requires.1 c.split-s.ensures _ _ _ low _ _ _ high,
+      omega (arith, c.requires.2, low.grown.room, high.grown.room),
     )
 
-pub returns-in-Known : goal.returns-in-Known
-unfolding Planned Says
-returns-in-Known t c =
-    known_has _ _ c.args.op _ _ _ c.requires.0.ready (rw c.in-Known.is at c.begin.ensures)
+pub returns-in_err-made : goal.returns-in_err-made
+unfolding Says
+returns-in_err-made t c =
+    let place = goal.at.returns-in_err-made t c in
+    let p = err_from_is_err_and c.from_residual-in_err-made.result c.from_residual-in_err-made.ensures.1 in
+    rw (p.1, p.2) (rw c.in_err-made.was at (made_is t place.After-make_in (low_has t place.After-early-2)))
 
-pub returns-in-Node-high : goal.returns-in-Node-high
-unfolding Planned Says
-returns-in-Node-high t c =
-    let go : Goes c.args.t.now c.args.used c.args.a c.args.b c.in-Split.s = rw c.in-Split.is at c.begin.ensures in
-    let low_says : Says c.args.t.now (record { used = c.args.used; most = c.args.most })
-    (combined c.args.t.now c.args.used (op_of c.args.op) c.in-Split.s.a.low c.in-Split.s.b.low) c.match-early.t c.match-early.low =
-    elim c.match-early.branch [
-      | in-Is w ↦
-          rw (w.t-is, w.low-is) (early_has _ _ c.args.op _ _ _ _ (low_asks _ _ c.args.op _ _ _ _ c.requires.0 go) (rw w.in-Is.is at c.early.ensures))
-      | in-Miss w ↦ rw (w.t-is, w.low-is) w.combine_from-low.ensures
-    ] in
-    let low_has : Has c.args.t.now (record { used = c.args.used; most = c.args.most })
-    (combined c.args.t.now c.args.used (op_of c.args.op) c.in-Split.s.a.low c.in-Split.s.b.low) c.match-early.t c.in-Node.after c.in-Node.l =
-    rw c.in-Node.is at low_says in
-    let high_says : Says c.match-early.t c.in-Node.after
-    (combined c.match-early.t c.in-Node.after.used (op_of c.args.op) c.in-Split.s.a.high c.in-Split.s.b.high) c.match-early-2.t c.match-early-2.high =
-    elim c.match-early-2.branch [
-      | in-Is-early w ↦
-          rw (w.t-is, w.high-is)
-          (early_has _ _ c.args.op _ _ _ _ (high_asks _ _ c.args.op _ _ _ _ c.requires.0 go _ _ _ low_has) (rw w.in-Is-early.is at c.early-in-Split.ensures))
-      | in-Miss-early w ↦ rw (w.t-is, w.high-is) w.combine_from-high.ensures
-    ] in
-    let high_has : Has c.match-early.t c.in-Node.after
-    (combined c.match-early.t c.in-Node.after.used (op_of c.args.op) c.in-Split.s.a.high c.in-Split.s.b.high)
-    c.match-early-2.t c.in-Node-high.last c.in-Node-high.h =
-    rw c.in-Node-high.is at high_says in
-    finished _ _ c.args.op _ _ _ _ c.requires.0 go _ _ _ low_has _ _ _ high_has _ c.finish.result c.finish.ensures
+pub note-requires : goal.note-requires
+unfolding Says
+note-requires t c =
+    let place = goal.at.note-requires t c in
+    let ask = c.requires.0 in
+    note_asks _ _ c.args.op _ _ _ _ _ _ ask.ready ask.first.id ask.second.id (omega (arith, c.hashed-slot.ensures.1, c.requires.2))
+    (rw c.in_ok-made.was at (made_is t place.After-make_in (low_has t place.After-early-2)))
+
+pub returns : goal.returns
+unfolding Says
+returns t c =
+    let place = goal.at.returns t c in
+    let ask = c.requires.0 in
+    rw c.note.ensures
+    (has_noted _ _ c.args.op _ _ _ _ _ _ ask.ready ask.first.id ask.second.id (omega (arith, c.hashed-slot.ensures.1, c.requires.2))
+    (rw c.in_ok-made.was at (made_is t place.After-make_in (low_has t place.After-early-2))))

@@ -1,15 +1,20 @@
 -- The equality, then its product with those before. Assumes nothing.
-use Rattle.fill.proofs.Equals.{equal_asks, equal_full, product_asks, equal_ends}
+use Rattle.std.proofs.lemmas.Result.{err_from_is_err_and}
+use Rattle.diagram.specs.Contract.{Gives}
+use Rattle.fill.specs.Work.{Ends}
+use Rattle.fill.proofs.Equals.{equal_misses, product_asks, equal_ends}
 use Rattle.fill.proofs.put_equal.Goals as goal
 
-pub combine-same-requires : goal.combine-same-requires
-combine-same-requires c = equal_asks c.requires
+pub returns-in_err-same-clause-says : goal.returns-in_err-same-clause-says
+unfolding Gives Ends
+returns-in_err-same-clause-says c =
+    let p = err_from_is_err_and c.from_residual.result c.from_residual.ensures.1 in
+    rw (p.1, p.2) (equal_misses c.requires c.in_err-same.ensures.gives.0, c.in_err-same.ensures.gives.1)
 
-pub returns-in_default : goal.returns-in_default
-returns-in_default c = equal_full c.requires _ _ c.combine-same.ensures c.in_default.is
+pub combine-requires-2 : goal.combine-requires-2
+unfolding Gives
+combine-requires-2 c = product_asks c.requires c.in_ok-same.ensures.gives
 
-pub combine-requires : goal.combine-requires
-combine-requires c = product_asks c.requires _ _ c.combine-same.ensures c.in-Node.is
-
-pub returns : goal.returns
-returns c = equal_ends c.requires _ _ c.combine-same.ensures c.in-Node.is _ _ c.combine.ensures
+pub returns-clause-says : goal.returns-clause-says
+unfolding Gives
+returns-clause-says c = equal_ends c.requires c.in_ok-same.ensures.gives _ _ _ c.combine-2.ensures.gives

@@ -1,11 +1,10 @@
 -- After v signals q is the id of the product of their equalities. Assumes nothing.
-use Prim.Native.Nat.{◌-◌}
-use lib.ListN.{length}
+use mathlib.Core.Path.{◌≡◌}
 use Rattle.fill.proofs.Equalled.{Equalled}
 use Rattle.fill.proofs.put_equals.Given as goal
 
 abbrev pub invariant-loop-v : goal.invariant-loop-v
-invariant-loop-v l = Equalled l.initial.t l.initial.hd l.g l.h l.left l.t l.hd l.q l.v
-
-abbrev pub decreases-loop-v : goal.decreases-loop-v
-decreases-loop-v l = length l.h - l.v
+invariant-loop-v l = record {
+  same_reference : l.table.words.ghost_name ≡ l.initial.table.words.ghost_name;
+  equalled : Equalled l.initial.table.words.now l.initial.table.head l.g l.h l.left l.table.words.now l.table.head l.q l.v;
+}

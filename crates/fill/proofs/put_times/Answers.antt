@@ -1,53 +1,18 @@
-use mathlib.Core.Path.{◌∙◌}
-use native.Mathlib.Omega.{arith}
-use Rattle.fill.proofs.Mapped.{mapped_none, mapped_small, mapped_next, mapped_full, mapped_end}
-use Rattle.fill.proofs.Each.{times_asks, times_says}
+-- The operation on each id gives its product. Assumes nothing.
+use Rattle.std.proofs.Common.{rules}
+use Rattle.fill.specs.Trees.{products}
+use Rattle.fill.proofs.Each.{times_asks, times_is}
 use Rattle.fill.proofs.put_times.Goals as goal
 
-pub loop-v-init : goal.loop-v-init
-loop-v-init c = mapped_none _ _ _ _ _ _ c.requires.ready
+pub put_each-requires-clause-takes : goal.put_each-requires-clause-takes
+put_each-requires-clause-takes c = record { at = λ v l p ready keeps. let asks = times_asks ready keeps l c.requires in search rules }
 
-pub id_at-requires : goal.id_at-requires
-id_at-requires c = c.loop-v-test.true
+pub put_each-requires-clause-puts : goal.put_each-requires-clause-puts
+put_each-requires-clause-puts c = (
+  products c.args.table.now.words.now c.args.table.now.head.used c.args.q c.args.h.now,
+  record { at = λ v l p q r ready keeps post. let is = times_is keeps l c.requires in search rules },
+)
 
-pub combine-made-requires : goal.combine-made-requires
-combine-made-requires c = times_asks c.loop-v.invariant _ c.loop-v-test.true c.id_at.ensures.0 c.requires
-
-pub shape_of-t-in_default : goal.shape_of-t-in_default
-shape_of-t-in_default c = c.combine-made.auto.t ∙ c.loop-v.invariant.size
-
-pub shape_of-out-in_default : goal.shape_of-out-in_default
-shape_of-out-in_default c = c.loop-v.invariant.filled.frame.size
-
-pub returns-in_default : goal.returns-in_default
-returns-in_default c =
-    let so = c.loop-v.invariant in
-    let l = c.loop-v-test.true in
-    let says = times_says so _ l c.id_at.ensures.0 c.requires _ _ c.combine-made.ensures in
-    mapped_full so l _ _ says _ c.in_default.is c.worked_of.ensures
-
-pub put_id-requires : goal.put_id-requires
-put_id-requires c =
-    let so = c.loop-v.invariant in
-    let l = c.loop-v-test.true in
-    let says = times_says so _ l c.id_at.ensures.0 c.requires _ _ c.combine-made.ensures in
-    (omega (arith, c.requires.sized, so.filled.frame.size), mapped_small so l _ _ says c.in-Node.is)
-
-pub loop-v-smaller : goal.loop-v-smaller
-loop-v-smaller c = omega (arith, c.loop-v-test.true)
-
-pub loop-v-preserved : goal.loop-v-preserved
-loop-v-preserved c =
-    let so = c.loop-v.invariant in
-    let l = c.loop-v-test.true in
-    let says = times_says so _ l c.id_at.ensures.0 c.requires _ _ c.combine-made.ensures in
-    mapped_next so l _ _ says c.in-Node.is c.combine-made.auto.t (omega arith) (omega (arith, c.requires.sized)) c.put_id.ensures
-
-pub shape_of-t : goal.shape_of-t
-shape_of-t c = c.loop-v.invariant.size
-
-pub shape_of-out : goal.shape_of-out
-shape_of-out c = c.loop-v.invariant.filled.frame.size
-
-pub returns : goal.returns
-returns c = mapped_end c.loop-v.invariant c.loop-v-test.false
+pub returns-clause-says : goal.returns-clause-says
+returns-clause-says c =
+    c.put_each.ensures.says _ (record { at = λ v l p q r ready keeps post. let is = times_is keeps l c.requires in search rules })

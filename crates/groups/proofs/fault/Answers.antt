@@ -1,20 +1,19 @@
-use native.Mathlib.Omega.{arith}
-use borrow.Author.Count.{below_more}
-use Rattle.groups.proofs.Differs.{differs_yes, differs_no, fault_found, fault_none}
+-- The first signal that differs, by a search of them all. Assumes nothing.
+use Rattle.std.proofs.Common.{rules, ℕ, not, get_or, refl, arith}
+use borrow.Author.Tests.{tests}
+use lib.Dec.{eqb}
+use Rattle.std.proofs.lemmas.Iterator.{YieldsList-from_range}
+use Rattle.std.proofs.lemmas.Iterator.Search.{find_from_yields_List}
+use Rattle.meaning.specs.Joint.{first}
+use Rattle.groups.specs.ByIds.{differs, fault_by}
+use Rattle.groups.proofs.Least.{found_least}
 use Rattle.groups.proofs.fault.Goals as goal
 
-pub loop-v-init : goal.loop-v-init
-loop-v-init c = (omega arith, λ k l. absurd (omega arith))
-
-pub returns-then-ids-u : goal.returns-then-ids-u
-returns-then-ids-u c =
-    let l = c.loop-v in
-    (fault_found _ _ l.v (omega arith) l.invariant.1 (differs_yes _ _ _ _ c.first_of-u.ensures.0 c.if-ids-u.true), omega arith)
-
-pub loop-v-preserved : goal.loop-v-preserved
-loop-v-preserved c =
-    let l = c.loop-v in
-    (omega arith, below_more _ _ l.invariant.1 (differs_no _ _ _ _ c.first_of-u.ensures.0 c.if-ids-u.false))
-
 pub returns : goal.returns
-returns c = (fault_none _ _ _ (omega arith) c.loop-v.invariant.1, omega arith)
+unfolding fault_by differs
+returns c =
+    let g = c.args.g.now in
+    let ids = c.args.ids.now in
+    let test = λ (v : ℕ). not (eqb (get_or ids (first g v) 0) (get_or ids v 0)) in
+    found_least _ test c.find.result
+    (find_from_yields_List test _ _ c.find.result c.find.ensures.ran (YieldsList-from_range 0 _ _ refl (omega arith)) (λ x b q k. search (rules, tests)))

@@ -1,5 +1,4 @@
 -- The signals passed are numbered. Assumes nothing.
-use Prim.Native.Nat.{◌-◌}
 use lib.ListN.{length}
 use Rattle.groups.specs.ByIds.{same_by}
 use Rattle.groups.proofs.Numbering.{Numbered}
@@ -7,6 +6,3 @@ use Rattle.groups.proofs.split.Given as goal
 
 abbrev pub invariant-loop-v : goal.invariant-loop-v
 invariant-loop-v l = Numbered (same_by l.g l.ids) (length l.g) l.out l.count l.v
-
-abbrev pub decreases-loop-v : goal.decreases-loop-v
-decreases-loop-v l = length l.g - l.v

@@ -1,39 +1,41 @@
 -- The sheet is read first, then the result's room and the vectors are judged, and only then are the ticks run. Assumes nothing.
-use Rattle.tick.specs.Tick.{refused_of}
-use Rattle.tick.proofs.Outcome.{found_good, found_refused, ran-refused, ran_out, ran_vector, ran-wrote}
+use native.Mathlib.Omega.{arith}
+use Rattle.std.proofs.Common.{rules}
+use Rattle.std.proofs.lemmas.Result.{err_from_is_err_and}
+use Rattle.answer.specs.declared.File.TheVariants.{A}
+use Rattle.answer.specs.Meant.{refused_in}
+use Rattle.sheet.proofs.Files.{reads_whole, reads_ok, reads_err}
+use Rattle.tick.proofs.Vectors.{vector_bad, vectors_good}
+use Rattle.tick.proofs.Outcome.{ran-refused, ran_out, ran_vector, ran-wrote}
 use Rattle.tick.proofs.run.Goals as goal
 
-pub returns-in_default : goal.returns-in_default
-unfolding refused_of
-returns-in_default c =
-    rw (c.refused.ensures, c.in_default.is)
-    (ran-refused _ _ _ c.in_default.field-0 c.in_default.field-1 (found_refused _ c.read_sheet-found.result c.read_sheet-found.ensures _ _ c.in_default.is))
+pub returns-in_err-s : goal.returns-in_err-s
+returns-in_err-s c =
+    let p = err_from_is_err_and c.from_residual.result c.from_residual.ensures.1 in
+    let m = reads_err _ c.read_sheet.ensures c.map_err.ensures.cases (λ e. refused_in e A) (λ e d q. search rules) c.in_err-s.was in
+    rw (p.1, p.2, m.1) (ran-refused _ _ _ m.0 m.2)
 
 pub returns-then-res-needed : goal.returns-then-res-needed
 returns-then-res-needed c =
-    let good = found_good _ c.read_sheet-found.result c.read_sheet-found.ensures c.in-Good.is in
-    ran_out _ _ _ _ good.0 c.if-res-needed.true
+    ran_out _ _ _ _ (reads_ok _ c.read_sheet.ensures c.map_err.ensures.cases c.in_ok-s.was) c.if-res-needed.true
 
-pub bad_vector-bad-requires : goal.bad_vector-bad-requires
-bad_vector-bad-requires c =
-    let good = found_good _ c.read_sheet-found.result c.read_sheet-found.ensures c.in-Good.is in
-    good.1.kept.few_inputs
+pub bad_vector-requires : goal.bad_vector-requires
+bad_vector-requires c =
+    omega (arith, (reads_whole (reads_ok _ c.read_sheet.ensures c.map_err.ensures.cases c.in_ok-s.was)).kept.few_inputs)
 
-pub returns-then-bad-needed : goal.returns-then-bad-needed
-returns-then-bad-needed c =
-    let good = found_good _ c.read_sheet-found.result c.read_sheet-found.ensures c.in-Good.is in
-    ran_vector _ _ _ _ good.0 c.if-res-needed.false _ good.1.kept.inputs _ c.bad_vector-bad.ensures c.if-bad-needed.true
+pub returns-in-Some : goal.returns-in-Some
+returns-in-Some c =
+    let bad = vector_bad _ _ _ c.in-Some.ensures in
+    ran_vector _ _ _ _ (reads_ok _ c.read_sheet.ensures c.map_err.ensures.cases c.in_ok-s.was) c.if-res-needed.false _ bad.0 bad.1
 
 pub ticks-requires : goal.ticks-requires
-ticks-requires c =
-    let good = found_good _ c.read_sheet-found.result c.read_sheet-found.ensures c.in-Good.is in
-    record {
-      whole = good.1;
-      vectors_in_bounds = c.if-res-needed.false;
-      vectors_len_bound = rw c.bad_vector-bad.ensures at c.if-bad-needed.false;
-    }
+ticks-requires c = record {
+  whole = reads_whole (reads_ok _ c.read_sheet.ensures c.map_err.ensures.cases c.in_ok-s.was);
+  vectors_in_bounds = c.if-res-needed.false;
+  vectors_len_bound = vectors_good _ _ c.in_default.ensures;
+}
 
 pub returns : goal.returns
 returns c =
-    let good = found_good _ c.read_sheet-found.result c.read_sheet-found.ensures c.in-Good.is in
-    ran-wrote _ _ _ _ good.0 c.if-res-needed.false _ good.1.kept.inputs _ _ c.bad_vector-bad.ensures c.if-bad-needed.false c.ticks.ensures
+    ran-wrote _ _ _ _ (reads_ok _ c.read_sheet.ensures c.map_err.ensures.cases c.in_ok-s.was) c.if-res-needed.false _
+    (vectors_good _ _ c.in_default.ensures) c.ticks.ensures

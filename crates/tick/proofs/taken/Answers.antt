@@ -1,32 +1,13 @@
+-- A register takes the value of the signal that its record names. Assumes nothing.
+use Rattle.std.proofs.Common.{rules}
 use mathlib.Core.Path.{◌∙◌, ap}
-use native.Mathlib.Omega.{arith}
-use Rattle.sheet.specs.Stored.{nth_signal}
 use Rattle.sheet.proofs.Right.{signal_register}
 use Rattle.tick.specs.Tick.{state_of}
-use Rattle.tick.proofs.Holding.{taken_of, taken_held, holding_start, holding_room, holding_more, holding_end}
+use Rattle.tick.proofs.Holding.{taken_of, taken_held}
 use Rattle.tick.proofs.taken.Goals as goal
 
-pub loop-i-init : goal.loop-i-init
-loop-i-init c = holding_start (taken_of _) _ _ c.empty-state.ensures
-
-pub bounds-s-i : goal.bounds-s-i
-bounds-s-i c = omega (arith, c.requires.kept.signals.within)
-
-pub with-state-requires : goal.with-state-requires
-with-state-requires c =
-    λ kind.
-    holding_room (taken_of _) _ c.requires.kept _ _ c.loop-i.invariant c.loop-i-test.true kind
-
-pub loop-i-smaller : goal.loop-i-smaller
-loop-i-smaller c = omega (arith, c.loop-i-test.true)
-
-pub loop-i-preserved : goal.loop-i-preserved
-unfolding taken_of
-loop-i-preserved c =
-    holding_more (taken_of c.args.v.now) _ c.requires.kept _ _ c.loop-i.invariant _ _ c.loop-i-test.true
-    (λ kind. rw (signal_register (nth_signal c.args.s c.loop-i.i) kind) c.at.ensures)
-    c.with-state.ensures
-
 pub returns : goal.returns
+unfolding taken_of
 returns c =
-    holding_end (taken_of c.args.v.now) _ c.requires.kept _ _ c.loop-i.invariant c.loop-i-test.false ∙ ap state_of (taken_held c.args.v.now _)
+    c.state_by.ensures (taken_of c.args.v.now) (λ x b given kind. rw (signal_register x kind) (search rules))
+    ∙ ap state_of (taken_held c.args.v.now _)

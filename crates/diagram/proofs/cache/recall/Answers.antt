@@ -3,22 +3,7 @@ use Rattle.diagram.specs.Contract.{Recalled}
 use Rattle.diagram.proofs.Noting.{recalled}
 use Rattle.diagram.proofs.cache.recall.Goals as goal
 
-pub returns-then-word-key : goal.returns-then-word-key
-unfolding Recalled
-returns-then-word-key c =
-    tt
-
-pub returns-then-word-a : goal.returns-then-word-a
-unfolding Recalled
-returns-then-word-a c =
-    tt
-
 pub returns-then-word-b : goal.returns-then-word-b
 unfolding Recalled
 returns-then-word-b c =
-    tt
-
-pub returns : goal.returns
-unfolding Recalled
-returns c =
-    recalled _ _ c.args.slot c.args.op _ _ _ c.requires.0 c.requires.1 (cc) (cc) (cc) c.word-4.ensures.0
+    recalled _ _ c.args.slot c.args.op _ _ _ c.requires.0 c.requires.1 (cc) (cc) (cc) c.word-then-word-b.ensures.0

@@ -1,13 +1,17 @@
--- `forget::forget`: nothing is to be taken back, or the cache and then the nodes are. Assumes nothing.
-use mathlib.Core.Path.{refl}
-use Rattle.diagram.proofs.Forgetting.{renewed_good, forgets_none, forgets_some}
+use Rattle.std.proofs.Common.{◌≡◌, refl, arith}
+use Rattle.diagram.proofs.Forgetting.{renewed_good, forgets_some, remain_all, remain_fewer}
 use Rattle.diagram.proofs.forget.forget.Goals as goal
 
-pub returns-then-used-mark : goal.returns-then-used-mark
-returns-then-used-mark c = forgets_none _ _ _ c.requires.0 c.if-used-mark.true
+pub loop-i-init : goal.loop-i-init
+loop-i-init c = (c.requires.1, remain_all _ _ (renewed_good _ _ _ c.requires.0.good c.renew.ensures) c.renew.ensures.silent)
 
-pub unlink_down-requires : goal.unlink_down-requires
-unlink_down-requires c = (renewed_good _ _ _ c.requires.0.good c.renew.ensures, c.renew.ensures.silent, c.requires.1)
+pub loop-i-preserved : goal.loop-i-preserved
+loop-i-preserved c =
+    let inv = c.loop-i.invariant in
+    (omega arith, rw c.unlink.ensures (remain_fewer _ _ _ _ _ inv.1 (omega arith)))
 
 pub returns : goal.returns
-returns c = forgets_some _ _ _ _ _ _ c.requires.0 c.renew.ensures c.unlink_down.ensures refl refl
+returns c =
+    let inv = c.loop-i.invariant in
+    let e : c.loop-i.i ≡ c.args.mark = omega arith in
+    forgets_some _ _ _ _ _ _ c.requires.0 c.renew.ensures (rw e at inv.1) refl refl

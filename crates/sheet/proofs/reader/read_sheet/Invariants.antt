@@ -5,7 +5,7 @@ use Rattle.sheet.proofs.Turns.{Turn}
 use Rattle.sheet.proofs.reader.read_sheet.Given as goal
 
 abbrev pub invariant-loop-at : goal.invariant-loop-at
-invariant-loop-at l = Turn l.file l.p l.at
+invariant-loop-at l = Turn l.file l.part l.at
 
 abbrev pub decreases-loop-at : goal.decreases-loop-at
 decreases-loop-at l = length l.file - l.at

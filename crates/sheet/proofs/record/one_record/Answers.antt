@@ -1,57 +1,39 @@
 -- One record is judged as the paper says, at each return. Assumes nothing.
-use mathlib.Core.Path.{sym, ◌∙◌}
-use Rattle.sheet.proofs.Judged.{front, judged_kind, judged_short, judged_many, judged_value, judged_later, judged_sound}
+use Rattle.std.proofs.lemmas.Result.{err_from_is_err_and}
+use Rattle.sheet.proofs.Judged.{judged_kind, judged_short, judged_many, judged_value, judged_later, judged_signal, judged_output, judged_end}
 use Rattle.sheet.proofs.record.one_record.Goals as goal
 
-pub returns-then-unknown : goal.returns-then-unknown
-returns-then-unknown c =
-    let judged_front = front c.args.rest.now c.args.s c.requires.0 c.requires.1 c.byte-kind.ensures c.byte-a.ensures c.byte-b.ensures in
-    judged_kind judged_front (sym c.if-unknown.true ∙ c.unknown.ensures)
+pub returns-in_err-kind : goal.returns-in_err-kind
+returns-in_err-kind c =
+    let p = err_from_is_err_and c.from_residual.result c.from_residual.ensures.1 in
+    rw (p.1, p.2) (judged_kind _ _ c.requires _ c.in_err-kind.ensures)
 
 pub returns-then-rest-body : goal.returns-then-rest-body
-returns-then-rest-body c =
-    let judged_front = front c.args.rest.now c.args.s c.requires.0 c.requires.1 c.byte-kind.ensures c.byte-a.ensures c.byte-b.ensures in
-    judged_short judged_front
-    (sym c.if-unknown.false ∙ c.unknown.ensures)
-    (rw c.body.ensures at c.if-rest-body.true)
+returns-then-rest-body c = judged_short _ _ c.requires _ c.in_ok-kind.ensures c.body.ensures c.if-rest-body.true
 
-pub too_many-requires : goal.too_many-requires
-too_many-requires c = c.requires.0
+pub returns-then-is_one_too_many : goal.returns-then-is_one_too_many
+returns-then-is_one_too_many c =
+    judged_many _ _ c.requires _ c.in_ok-kind.ensures c.body.ensures c.if-rest-body.false c.if-is_one_too_many.ensures
 
-pub returns-then-too_many : goal.returns-then-too_many
-returns-then-too_many c =
-    let judged_front = front c.args.rest.now c.args.s c.requires.0 c.requires.1 c.byte-kind.ensures c.byte-a.ensures c.byte-b.ensures in
-    judged_many judged_front
-    (sym c.if-unknown.false ∙ c.unknown.ensures)
-    (rw c.body.ensures at c.if-rest-body.false)
-    (sym c.if-too_many.true ∙ c.too_many.ensures)
+pub returns-then-has_bad_value : goal.returns-then-has_bad_value
+returns-then-has_bad_value c =
+    judged_value _ _ c.requires _ c.in_ok-kind.ensures c.body.ensures c.if-rest-body.false c.if-is_one_too_many.ensures
+    _ c.in-Signal.is _ c.read-x.ensures c.if-has_bad_value.ensures
 
-pub returns-then-bad_value : goal.returns-then-bad_value
-returns-then-bad_value c =
-    let judged_front = front c.args.rest.now c.args.s c.requires.0 c.requires.1 c.byte-kind.ensures c.byte-a.ensures c.byte-b.ensures in
-    judged_value judged_front
-    (sym c.if-unknown.false ∙ c.unknown.ensures)
-    (rw c.body.ensures at c.if-rest-body.false)
-    (sym c.if-too_many.false ∙ c.too_many.ensures)
-    (sym c.if-bad_value.true ∙ c.bad_value.ensures)
+pub returns-then-has_later_operand : goal.returns-then-has_later_operand
+returns-then-has_later_operand c =
+    judged_later _ _ c.requires _ c.in_ok-kind.ensures c.body.ensures c.if-rest-body.false c.if-is_one_too_many.ensures
+    _ c.in-Signal.is _ c.read-x.ensures c.if-has_bad_value.ensures (rw c.len.ensures.value at c.if-has_later_operand.ensures)
 
-pub returns-then-not_lower : goal.returns-then-not_lower
-returns-then-not_lower c =
-    let judged_front = front c.args.rest.now c.args.s c.requires.0 c.requires.1 c.byte-kind.ensures c.byte-a.ensures c.byte-b.ensures in
-    judged_later judged_front
-    (sym c.if-unknown.false ∙ c.unknown.ensures)
-    (rw c.body.ensures at c.if-rest-body.false)
-    (sym c.if-too_many.false ∙ c.too_many.ensures)
-    (sym c.if-bad_value.false ∙ c.bad_value.ensures)
-    (sym c.if-not_lower.true ∙ c.not_lower.ensures)
+pub returns-else-has_later_operand : goal.returns-else-has_later_operand
+returns-else-has_later_operand c =
+    judged_signal _ _ c.requires _ c.in_ok-kind.ensures c.body.ensures c.if-rest-body.false c.if-is_one_too_many.ensures
+    _ c.in-Signal.is _ c.read-x.ensures c.if-has_bad_value.ensures (rw c.len.ensures.value at c.if-has_later_operand.ensures)
 
-pub returns : goal.returns
-returns c =
-    let judged_front = front c.args.rest.now c.args.s c.requires.0 c.requires.1 c.byte-kind.ensures c.byte-a.ensures c.byte-b.ensures in
-    judged_sound judged_front
-    (sym c.if-unknown.false ∙ c.unknown.ensures)
-    (rw c.body.ensures at c.if-rest-body.false)
-    (sym c.if-too_many.false ∙ c.too_many.ensures)
-    (sym c.if-bad_value.false ∙ c.bad_value.ensures)
-    (sym c.if-not_lower.false ∙ c.not_lower.ensures)
-    c.second.ensures
+pub returns-in-Output : goal.returns-in-Output
+returns-in-Output c =
+    judged_output _ _ c.requires _ c.in_ok-kind.ensures c.body.ensures c.if-rest-body.false c.if-is_one_too_many.ensures c.in-Output.is
+
+pub returns-in-End : goal.returns-in-End
+returns-in-End c =
+    judged_end _ _ c.requires _ c.in_ok-kind.ensures c.body.ensures c.if-rest-body.false c.if-is_one_too_many.ensures c.in-End.is

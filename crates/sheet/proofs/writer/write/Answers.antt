@@ -1,24 +1,27 @@
 -- The call, at each return. Assumes nothing.
+use Rattle.std.proofs.Common.{rules}
+use Rattle.std.proofs.lemmas.Result.{err_from_is_err_and}
+use Rattle.answer.specs.declared.File.TheVariants.{A}
+use Rattle.answer.specs.Meant.{refused_in}
+use Rattle.sheet.proofs.Files.{reads_whole, reads_ok, reads_err}
 use Rattle.sheet.proofs.Called.{called_refused, called_out, called_wrote}
-use Rattle.sheet.proofs.Files.{reads_whole}
 use Rattle.sheet.proofs.writer.write.Goals as goal
 
-pub returns-in_default : goal.returns-in_default
-returns-in_default c =
-    rw c.refusal.ensures (called_refused c.args.file.now c.args.res.now c.read_sheet-found.ensures c.in_default.is)
+pub returns-in_err-s : goal.returns-in_err-s
+returns-in_err-s c =
+    let p = err_from_is_err_and c.from_residual.result c.from_residual.ensures.1 in
+    let m = reads_err _ c.read_sheet.ensures c.map_err.ensures.cases (λ e. refused_in e A) (λ e d q. search rules) c.in_err-s.was in
+    rw (p.1, p.2, m.1) (called_refused c.args.file.now c.args.res.now {e = m.0} m.2)
 
 pub needed-n-requires : goal.needed-n-requires
-needed-n-requires c = reads_whole c.read_sheet-found.ensures c.in-Good.is
+needed-n-requires c = reads_whole (reads_ok _ c.read_sheet.ensures c.map_err.ensures.cases c.in_ok-s.was)
 
 pub returns-then-res-n : goal.returns-then-res-n
 returns-then-res-n c =
-    called_out c.args.file.now c.args.res.now c.read_sheet-found.ensures c.in-Good.is
+    called_out c.args.file.now c.args.res.now (reads_ok _ c.read_sheet.ensures c.map_err.ensures.cases c.in_ok-s.was)
     c.needed-n.ensures c.if-res-n.true
-
-pub put_sheet-requires : goal.put_sheet-requires
-put_sheet-requires c = (reads_whole c.read_sheet-found.ensures c.in-Good.is, rw c.needed-n.ensures at c.if-res-n.false)
 
 pub returns : goal.returns
 returns c =
-    called_wrote c.args.file.now c.args.res.now c.read_sheet-found.ensures c.in-Good.is
+    called_wrote c.args.file.now c.args.res.now (reads_ok _ c.read_sheet.ensures c.map_err.ensures.cases c.in_ok-s.was)
     c.needed-n.ensures c.if-res-n.false c.put_sheet.ensures

@@ -1,41 +1,37 @@
 -- A signal of a pass, by its kind. Assumes nothing.
-use Prim.Native.Nat.{◌≤◌}
-use native.Mathlib.Omega.{arith}
-use Rattle.meaning.specs.Numbers.{NOT, AND}
-use Rattle.work.proofs.Signals.{input_asks, input_says, register_says, inverter_asks, inverter_says, gate_asks, gate_says}
+use Rattle.work.proofs.Signals.{input_asks, input_says, start_says, now_asks, now_says, next_asks, next_says, inverter_says, and_says, or_says, xor_says}
 use Rattle.work.proofs.pass.put_signal.Goals as goal
 
 pub make-requires : goal.make-requires
-make-requires c = input_asks _ _ _ _ _ _ c.requires c.if-x-eq-INPUT.true
+make-requires c = input_asks c.requires c.in-Input.is
 
-pub returns-then-x-eq-INPUT : goal.returns-then-x-eq-INPUT
-returns-then-x-eq-INPUT c = input_says _ _ _ _ _ _ c.requires c.if-x-eq-INPUT.true _ _ c.make.ensures
+pub returns-in-Input-clause-signal : goal.returns-in-Input-clause-signal
+returns-in-Input-clause-signal c = input_says c.requires c.in-Input.is _ _ _ c.make.ensures.gives
 
-pub put_register-requires : goal.put_register-requires
-put_register-requires c = (c.requires.ready, c.requires.register c.if-x-eq-REGISTER.true)
+pub make-requires-in-Now : goal.make-requires-in-Now
+make-requires-in-Now c = now_asks c.requires c.in-Register.is c.in-Now.is
 
-pub returns-then-x-eq-REGISTER : goal.returns-then-x-eq-REGISTER
-returns-then-x-eq-REGISTER c = register_says _ _ _ _ _ _ c.requires c.if-x-eq-REGISTER.true _ _ c.put_register.ensures
+pub operand-requires : goal.operand-requires
+operand-requires c = next_asks c.requires c.in-Register.is _ c.in-Next.is
 
-pub operand-a-requires : goal.operand-a-requires
-operand-a-requires c =
-    let one : NOT ≤ c.args.x.kind = omega (arith, c.requires.least, c.if-x-eq-INPUT.false, c.if-x-eq-REGISTER.false) in (c.requires.first one).place
+pub returns-in-Start-clause-signal : goal.returns-in-Start-clause-signal
+returns-in-Start-clause-signal c = start_says c.requires c.in-Register.is c.in-Start.is _ c.from.ensures
 
-pub complement-requires : goal.complement-requires
-complement-requires c = inverter_asks _ _ _ _ _ _ c.requires _ c.operand-a.ensures c.if-x-eq-NOT.true
+pub returns-in-Now-clause-signal : goal.returns-in-Now-clause-signal
+returns-in-Now-clause-signal c = now_says c.requires c.in-Register.is c.in-Now.is _ _ _ c.make-in-Now.ensures.gives
 
-pub returns-then-x-eq-NOT : goal.returns-then-x-eq-NOT
-returns-then-x-eq-NOT c =
-    inverter_says _ _ _ _ _ _ c.requires _ c.operand-a.ensures c.if-x-eq-NOT.true _ _ c.complement.ensures
+pub returns-in-Next-clause-signal : goal.returns-in-Next-clause-signal
+returns-in-Next-clause-signal c = next_says c.requires c.in-Register.is _ c.in-Next.is _ c.operand.ensures
 
-pub operand-b-requires : goal.operand-b-requires
-operand-b-requires c =
-    let two : AND ≤ c.args.x.kind = omega (arith, c.requires.least, c.if-x-eq-INPUT.false, c.if-x-eq-REGISTER.false, c.if-x-eq-NOT.false) in (c.requires.second two).place
+pub returns-in-Not-clause-signal : goal.returns-in-Not-clause-signal
+returns-in-Not-clause-signal c =
+    inverter_says c.requires c.in-Not.is c.operand-in-Not.ensures _ _ _ c.complement.ensures.gives
 
-pub combine-requires : goal.combine-requires
-combine-requires c =
-    let two : AND ≤ c.args.x.kind = omega (arith, c.requires.least, c.if-x-eq-INPUT.false, c.if-x-eq-REGISTER.false, c.if-x-eq-NOT.false) in gate_asks _ _ _ _ _ _ c.requires _ c.operand-a.ensures _ c.operand-b.ensures two
+pub returns-in-And-clause-signal : goal.returns-in-And-clause-signal
+returns-in-And-clause-signal c = and_says c.requires _ _ _ c.in-And.is c.put_gate.ensures.gate
 
-pub returns : goal.returns
-returns c =
-    let two : AND ≤ c.args.x.kind = omega (arith, c.requires.least, c.if-x-eq-INPUT.false, c.if-x-eq-REGISTER.false, c.if-x-eq-NOT.false) in gate_says _ _ _ _ _ _ c.requires _ c.operand-a.ensures _ c.operand-b.ensures two _ c.gate_op.ensures _ _ c.combine.ensures
+pub returns-in-Or-clause-signal : goal.returns-in-Or-clause-signal
+returns-in-Or-clause-signal c = or_says c.requires _ _ _ c.in-Or.is c.put_gate-in-Or.ensures.gate
+
+pub returns-in-Xor-clause-signal : goal.returns-in-Xor-clause-signal
+returns-in-Xor-clause-signal c = xor_says c.requires _ _ _ c.in-Xor.is c.put_gate-in-Xor.ensures.gate

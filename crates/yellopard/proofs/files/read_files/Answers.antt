@@ -1,58 +1,72 @@
 -- A, B, UNLIKE, grouping: each file is read, and the first refusal ends the call. Assumes nothing.
-use mathlib.Core.Path.{sym, ap, ◌∙◌}
+use Rattle.std.proofs.Common.{rules}
+use Rattle.std.proofs.lemmas.Result.{err_from_is_err_and}
+use mathlib.Core.Path.{sym, ◌∙◌}
+use Prim.Native.Nat.{◌+◌, ◌*◌, ◌≤◌}
 use native.Mathlib.Omega.{arith}
+use Rattle.meaning.specs.Numbers.{max_signals}
+use Rattle.answer.specs.declared.File.TheVariants.{A, B}
+use Rattle.answer.specs.Meant.{refused_in}
+use Rattle.sheet.proofs.Files.{reads_ok, reads_err}
+use Rattle.sheet.proofs.Mapped.{mapped_ok}
 use Rattle.work.proofs.Front.{zeros_front}
-use Rattle.yellopard.specs.declared.files.Stage.TheVariants.{Ended}
-use Rattle.yellopard.proofs.Stages.{files_ended, ends_at_A, ends_at_B, TwoSheets, two_sheets, joint_few, pair_asks, ends_with_inputs, ends_with_outputs, ends_at-grouping, stage_ready}
+use Rattle.yellopard.proofs.Stages.{ends_at_A, ends_at_B, TwoSheets, two_sheets, joint_few, pair_asks, ends_with_inputs, ends_with_outputs, ends_with-grouping, files_ready}
 use Rattle.yellopard.proofs.files.read_files.Goals as goal
+use Rattle.yellopard.proofs.files.read_files.Goals.{In_ok-new}
 
-pub returns-in_default : goal.returns-in_default
-returns-in_default c =
-    files_ended _ _ (c.ended.ensures ∙ ap Ended c.refusal.ensures) (ends_at_A c.read_sheet-old.result c.read_sheet-old.ensures c.in_default.is)
+-- both files say sheets
+sheets : (c : In_ok-new) → TwoSheets c.args.a.now c.args.b.now c.in_ok-old.old c.in_ok-new.new
+sheets c =
+    two_sheets (reads_ok _ c.read_sheet.ensures c.map_err.ensures.cases c.in_ok-old.was) (reads_ok _ c.read_sheet-2.ensures c.map_err-2.ensures.cases c.in_ok-new.was)
 
-pub returns-in_default-new_reading : goal.returns-in_default-new_reading
-returns-in_default-new_reading c =
-    files_ended _ _ (c.ended-in_default-new_reading.ensures ∙ ap Ended c.refusal-in_default-new_reading.ensures)
-    (ends_at_B c.read_sheet-old.result c.read_sheet-new.result c.read_sheet-old.ensures c.in-Good.is c.read_sheet-new.ensures c.in_default-new_reading.is)
+pub returns-in_err-old : goal.returns-in_err-old
+returns-in_err-old c =
+    let p = err_from_is_err_and c.from_residual.result c.from_residual.ensures.1 in
+    let m = reads_err _ c.read_sheet.ensures c.map_err.ensures.cases (λ e. refused_in e A) (λ e d q. search rules) c.in_err-old.was in
+    rw (p.1, p.2, m.1) (ends_at_A {e = m.0} m.2)
 
-pub returns-then-x-y : goal.returns-then-x-y
-returns-then-x-y c =
-    let sheets : TwoSheets c.args.a.now c.args.b.now c.read_sheet-old.result.sheet c.read_sheet-new.result.sheet = two_sheets c.read_sheet-old.result c.read_sheet-new.result c.read_sheet-old.ensures c.in-Good.is c.read_sheet-new.ensures c.in-Good-new_reading.is in
-    files_ended _ _ c.ended-then-x-y.ensures (ends_with_inputs sheets _ c.if-x-y.true)
+pub returns-in_err-new : goal.returns-in_err-new
+returns-in_err-new c =
+    let p = err_from_is_err_and c.from_residual-in_err-new.result c.from_residual-in_err-new.ensures.1 in
+    let m = reads_err _ c.read_sheet-2.ensures c.map_err-2.ensures.cases (λ e. refused_in e B) (λ e d q. search rules) c.in_err-new.was in
+    rw (p.1, p.2, m.1) (ends_at_B (reads_ok _ c.read_sheet.ensures c.map_err.ensures.cases c.in_ok-old.was) {e = m.0} m.2)
 
-pub returns-then-x-y-2 : goal.returns-then-x-y-2
-returns-then-x-y-2 c =
-    let sheets : TwoSheets c.args.a.now c.args.b.now c.read_sheet-old.result.sheet c.read_sheet-new.result.sheet = two_sheets c.read_sheet-old.result c.read_sheet-new.result c.read_sheet-old.ensures c.in-Good.is c.read_sheet-new.ensures c.in-Good-new_reading.is in
-    files_ended _ _ c.ended-then-x-y-2.ensures (ends_with_outputs sheets _ c.if-x-y.false c.if-x-y-2.true)
+pub returns-then-old-new : goal.returns-then-old-new
+returns-then-old-new c =
+    rw c.unlike.ensures (ends_with_inputs (sheets (goal.at.returns-then-old-new c).In_ok-new) _ c.if-old-new.true)
 
-pub overflow_add-n : goal.overflow_add-n
-overflow_add-n c =
-    let sheets : TwoSheets c.args.a.now c.args.b.now c.read_sheet-old.result.sheet c.read_sheet-new.result.sheet = two_sheets c.read_sheet-old.result c.read_sheet-new.result c.read_sheet-old.ensures c.in-Good.is c.read_sheet-new.ensures c.in-Good-new_reading.is in
-    omega (arith, joint_few (sheets))
+pub returns-then-len : goal.returns-then-len
+returns-then-len c =
+    rw c.unlike-then-len.ensures
+    (ends_with_outputs (sheets (goal.at.returns-then-len c).In_ok-new) _ c.if-old-new.false (rw (c.len.ensures.value, c.len-2.ensures.value) at c.if-len.true))
+
+pub overflow_add-signals : goal.overflow_add-signals
+overflow_add-signals c = omega (arith, joint_few (sheets (goal.at.overflow_add-signals c).In_ok-new))
 
 pub slice_bounds-classes-end : goal.slice_bounds-classes-end
 slice_bounds-classes-end c =
-    let sheets : TwoSheets c.args.a.now c.args.b.now c.read_sheet-old.result.sheet c.read_sheet-new.result.sheet = two_sheets c.read_sheet-old.result c.read_sheet-new.result c.read_sheet-old.ensures c.in-Good.is c.read_sheet-new.ensures c.in-Good-new_reading.is in
-    joint_few sheets
+    rw (c.len-3.ensures.value, c.len-4.ensures.value) (joint_few (sheets (goal.at.slice_bounds-classes-end c).In_ok-new))
 
 pub slice_bounds-read_classes-end : goal.slice_bounds-read_classes-end
 slice_bounds-read_classes-end c =
-    let sheets : TwoSheets c.args.a.now c.args.b.now c.read_sheet-old.result.sheet c.read_sheet-new.result.sheet = two_sheets c.read_sheet-old.result c.read_sheet-new.result c.read_sheet-old.ensures c.in-Good.is c.read_sheet-new.ensures c.in-Good-new_reading.is in
-    sym (zeros_front _ (joint_few sheets))
+    let few : c.len-3.result + c.len-4.result ≤ 2 * max_signals = rw (c.len-3.ensures.value, c.len-4.ensures.value) (joint_few (sheets (goal.at.slice_bounds-read_classes-end c).In_ok-new)) in
+    sym (zeros_front _ few)
+
+pub returns-in_err-map_err : goal.returns-in_err-map_err
+returns-in_err-map_err c =
+    let p = err_from_is_err_and c.from_residual-in_err-map_err.result c.from_residual-in_err-map_err.ensures.1 in
+    rw (p.1, p.2)
+    (ends_with-grouping (sheets (goal.at.returns-in_err-map_err c).In_ok-new) _ c.if-old-new.false (rw (c.len.ensures.value, c.len-2.ensures.value) at c.if-len.false) _ _
+    (rw (c.len-3.ensures.value, c.len-4.ensures.value) at c.read_classes.ensures) _ c.map_err-3.ensures.cases (λ e d q. search rules) c.in_err-map_err.was)
 
 pub pair_of-pair-requires : goal.pair_of-pair-requires
-pair_of-pair-requires c =
-    let sheets : TwoSheets c.args.a.now c.args.b.now c.read_sheet-old.result.sheet c.read_sheet-new.result.sheet = two_sheets c.read_sheet-old.result c.read_sheet-new.result c.read_sheet-old.ensures c.in-Good.is c.read_sheet-new.ensures c.in-Good-new_reading.is in
-    pair_asks sheets c.if-x-y.false
-
-pub returns-in_default-grouping : goal.returns-in_default-grouping
-returns-in_default-grouping c =
-    let sheets : TwoSheets c.args.a.now c.args.b.now c.read_sheet-old.result.sheet c.read_sheet-new.result.sheet = two_sheets c.read_sheet-old.result c.read_sheet-new.result c.read_sheet-old.ensures c.in-Good.is c.read_sheet-new.ensures c.in-Good-new_reading.is in
-    stage_ready sheets _ c.if-x-y.false c.if-x-y-2.false _ _ c.read_classes-grouping.ensures c.in_default-grouping.is
-    (c.read_classes-grouping.auto.classes ∙ zeros_front _ (joint_few sheets)) _ c.pair_of-pair.ensures
+pair_of-pair-requires c = pair_asks (sheets (goal.at.pair_of-pair-requires c).In_ok-new) c.if-old-new.false
 
 pub returns : goal.returns
 returns c =
-    let sheets : TwoSheets c.args.a.now c.args.b.now c.read_sheet-old.result.sheet c.read_sheet-new.result.sheet = two_sheets c.read_sheet-old.result c.read_sheet-new.result c.read_sheet-old.ensures c.in-Good.is c.read_sheet-new.ensures c.in-Good-new_reading.is in
-    files_ended _ _ c.ended-2.ensures
-    (ends_at-grouping sheets _ c.if-x-y.false c.if-x-y-2.false _ _ c.read_classes-grouping.ensures c.in-Refused.is)
+    let both = sheets (goal.at.returns c).In_ok-new in
+    rw (c.len-3.ensures.value, c.len-4.ensures.value) (
+    files_ready both _ c.if-old-new.false (rw (c.len.ensures.value, c.len-2.ensures.value) at c.if-len.false) _ _
+    (rw (c.len-3.ensures.value, c.len-4.ensures.value) at c.read_classes.ensures) (mapped_ok _ _ _ _ c.map_err-3.ensures.cases c.in_ok-map_err.was)
+    (rw (c.len-3.ensures.value, c.len-4.ensures.value) at c.read_classes.auto.classes ∙ zeros_front _ (joint_few both)) _ c.pair_of-pair.ensures
+    )

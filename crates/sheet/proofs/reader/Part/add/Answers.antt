@@ -1,28 +1,24 @@
--- One more record, by each of the three ways in which it is added. Assumes nothing.
-use Rattle.sheet.proofs.Added.{output_names, register_names, added_output, added-gate, added-register}
+-- One more record: a register and an output name a signal, any other does not. Assumes nothing.
+use Rattle.std.proofs.Common.{◌≡◌, rules}
+use Rattle.sheet.specs.declared.kind.Kind.TheVariants.{Register}
+use Rattle.sheet.proofs.Added.{register_names, added-gate, added-register, added_output}
 use Rattle.sheet.proofs.reader.Part.add.Goals as goal
 
-pub with_output-t-requires : goal.with_output-t-requires
-with_output-t-requires c = (c.requires.0.sheet, c.requires.1.output c.if-kind-eq-OUTPUT.true)
+pub push_name-requires : goal.push_name-requires
+push_name-requires c =
+    let r : c.in-Signal.x.kind ≡ Register = search rules in
+    register_names c.requires.0 c.in-Signal.x (rw c.in-Signal.is at c.requires.1) r
 
-pub with_name-requires : goal.with_name-requires
-with_name-requires c = (c.requires.0, output_names c.requires.0 c.requires.1 c.if-kind-eq-OUTPUT.true)
+pub returns-then-eq : goal.returns-then-eq
+returns-then-eq c =
+    let r : c.in-Signal.x.kind ≡ Register = search rules in
+    rw (c.in-Signal.is, c.push_name.ensures, c.push_signal.ensures) (added-register c.requires.0 c.in-Signal.x (rw c.in-Signal.is at c.requires.1) r c.args.at)
 
-pub returns-then-kind-eq-OUTPUT : goal.returns-then-kind-eq-OUTPUT
-returns-then-kind-eq-OUTPUT c =
-    rw (c.with_name.ensures, c.with_output-t.ensures) (added_output c.requires.0 c.requires.1 c.if-kind-eq-OUTPUT.true c.args.at)
+pub returns-else-eq : goal.returns-else-eq
+returns-else-eq c =
+    let r : c.in-Signal.x.kind ≡ Register → ⊥ = search rules in
+    rw (c.in-Signal.is, c.push_signal.ensures) (added-gate c.requires.0 c.in-Signal.x (rw c.in-Signal.is at c.requires.1) r c.args.at)
 
-pub with_signal-t-requires : goal.with_signal-t-requires
-with_signal-t-requires c = (c.requires.0.sheet, c.requires.1.signal c.if-kind-eq-OUTPUT.false)
-
-pub with_name-requires-then-kind-eq-REGISTER : goal.with_name-requires-then-kind-eq-REGISTER
-with_name-requires-then-kind-eq-REGISTER c =
-    (c.requires.0, register_names c.requires.0 c.requires.1 c.if-kind-eq-OUTPUT.false c.if-kind-eq-REGISTER.true)
-
-pub returns-then-kind-eq-REGISTER : goal.returns-then-kind-eq-REGISTER
-returns-then-kind-eq-REGISTER c =
-    rw (c.with_name-then-kind-eq-REGISTER.ensures, c.with_signal-t.ensures) (added-register c.requires.0 c.requires.1 c.if-kind-eq-OUTPUT.false c.if-kind-eq-REGISTER.true c.args.at)
-
-pub returns : goal.returns
-returns c =
-    rw (c.with_sheet.ensures, c.with_signal-t.ensures) (added-gate c.requires.0 c.requires.1 c.if-kind-eq-OUTPUT.false c.if-kind-eq-REGISTER.false c.args.at)
+pub returns-in-Output : goal.returns-in-Output
+returns-in-Output c =
+    rw (c.in-Output.is, c.push_name-in-Output.ensures, c.push_output.ensures) (added_output c.requires.0 c.in-Output.o (rw c.in-Output.is at c.requires.1) c.args.at)

@@ -1,7 +1,0 @@
--- A byte of the rest of a file, 0 past its end. Assumes nothing.
-use mathlib.Core.Path.{sym}
-use lib.ListN.{get_or-eq_default}
-use Rattle.sheet.proofs.record.byte.Goals as goal
-
-pub returns-else-i-rest : goal.returns-else-i-rest
-returns-else-i-rest c = sym (get_or-eq_default c.args.rest.now 0 c.if-i-rest.false)
