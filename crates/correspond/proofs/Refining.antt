@@ -61,8 +61,8 @@ written_bytes (Ok (Wrote k)) g v = absurd v
 written_bytes (Err f) g v = absurd v
 
 -- what is said of a table's words is said of the array that they were lent from
-pub refine_lent : {p : Pair} {proposal w w' u u' g : List ℕ} {z : Result Done Refused} → w ≡ w' → u' ≡ u → RefineSays p proposal w u g z → RefineSays p proposal w' u' g z
-refine_lent e d c = rw (← e, d) c
+pub refine_lent : {p : Pair} {proposal w u u' g : List ℕ} {z : Result Done Refused} → u' ≡ u → RefineSays p proposal w u g z → RefineSays p proposal w u' g z
+refine_lent d c = rw d c
 
 answer_in : paper.Outcome → paper.Answer
 answer_in o = o.answer
@@ -77,10 +77,11 @@ module _ {p : Pair} {proposal : List ℕ} (ok : Grouped p proposal) (w : List �
 
   -- ## No room at the start
 
-  pub refine_no_start : (a : Head) (u : List ℕ) (b : Head) (ids : List ℕ) (full : Full) → StartSays p w a u b ids (Err full) → {g : List ℕ} → length g ≡ joint p
+  pub refine_no_start : {x : List ℕ} → x ≡ w → (a : Head) (u : List ℕ) (b : Head) (ids : List ℕ) (full : Full) → StartSays p x a u b ids (Err full) → {g : List ℕ} → length g ≡ joint p
       → RefineSays p proposal w u g (Err (out_of_room 0))
   unfolding StartSays ListSays answer_of refusal_of file_of written_by Writes joint answer_in written_in paper.refuse paper.silent
-  refine_no_start a u b ids full x long =
+  refine_no_start e a u b ids full says long =
+      let x = rw e at says in
       let is : (space : ℕ) → 2 * total (left p) (right p) + 1 ≤ space → paper.refine_verdict (room_of w) space (left p) (right p) proposal ≡ paper.refuse NO_ROOM no_file 0 =
       λ space l. out_at-start (left p) (right p) proposal pos (room_of w) space l x.over in
       record {
@@ -100,15 +101,17 @@ module _ {p : Pair} {proposal : List ℕ} (ok : Grouped p proposal) (w : List �
     pub grouping : g ≡ T (left p) (right p) proposal 0
     pub lent : Lent w u
 
-  pub begun : (a : Head) (u : List ℕ) (b : Head) (ids : List ℕ) (done : Unit {0}) → StartSays p w a u b ids (Ok done) → a.most ≡ 0
+  pub begun : {x : List ℕ} → x ≡ w → (a : Head) (u : List ℕ) (b : Head) (ids : List ℕ) (done : Unit {0}) → StartSays p x a u b ids (Ok done) → a.most ≡ 0
       → {g : List ℕ} → g ≡ split_by proposal ids → Begun u g b
   unfolding StartSays ListSays joint
-  begun a u b ids done f none is = record {
-    fits = f.fits;
-    most = f.most ∙ (rw none (omega arith));
-    grouping = is ∙ start-split (left p) (right p) proposal ids ok.size (all_tell ok ids _ f.tells);
-    lent = fits_lent f;
-  }
+  begun e a u b ids done says none is =
+      let f = rw e at says in
+      record {
+        fits = f.fits;
+        most = f.most ∙ (rw none (omega arith));
+        grouping = is ∙ start-split (left p) (right p) proposal ids ok.size (all_tell ok ids _ f.tells);
+        lent = fits_lent f;
+      }
 
   begun_long : {u g : List ℕ} {b : Head} → Begun u g b → length g ≡ joint p
   unfolding joint
@@ -169,7 +172,7 @@ module _ {p : Pair} {proposal : List ℕ} (ok : Grouped p proposal) (w : List �
     ended : SettledFrom (room_of u) p proposal g' b'.most z
     ended = says.from proposal x.grouping (omega (arith, x.fits, x.lent.room)) x.counted
 
-    pub settled_grouped : Grouped p g'
+    settled_grouped : Grouped p g'
     settled_grouped = record { alike = ok.alike; some = ok.some; outputs = ok.outputs; size = says.size ∙ x.grouped.size }
 
     pub refine_over : {e : Refused} → z ≡ Err e → RefineSays p proposal w u' g' (Err e)

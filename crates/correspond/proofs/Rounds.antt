@@ -1,5 +1,5 @@
--- Laws of the rounds: how they begin, go on, settle, and run out of room. Assumes nothing.
-use mathlib.Core.Path.{◌≡◌, refl, sym, ap, ◌∙◌, subst}
+-- Laws of the rounds: how they go on, settle, and run out of room. Assumes nothing.
+use mathlib.Core.Path.{◌≡◌, sym, ap, ◌∙◌, subst}
 use mathlib.Core.Bool.{true, false}
 use mathlib.Core.List.{List}
 use Prim.Native.Nat.{ℕ, suc, ◌≤◌, ◌<◌, max}
@@ -36,14 +36,6 @@ greatest_end base base' c r m e g = record {
 }
 
 module _ (N base : ℕ) (A B : Sheet) (p : List ℕ) where
-  pub running_none : Running N base A B p 0 (T A B p 0) base
-  running_none = record {
-    grouping = refl;
-    changed = λ i l. absurd (omega arith);
-    fitted = λ i l. absurd (omega arith);
-    most = record { from = omega arith; each = λ i l. absurd (omega arith); least = λ k l h. l };
-  }
-
   module _ (r : ℕ) (g : List ℕ) (m : ℕ) (run : Running N base A B p r g m) where
     -- the grouping that the next round makes
     pub running-next : grouping (total A B) (step_same A B g) ≡ T A B p (suc r)

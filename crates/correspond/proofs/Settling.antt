@@ -1,5 +1,5 @@
 -- Laws of the loop over the rounds. Assumes nothing.
-use mathlib.Core.Path.{◌≡◌, refl, sym, ap, ◌∙◌, subst}
+use mathlib.Core.Path.{◌≡◌, refl, sym, ap, ◌∙◌}
 use mathlib.Core.List.{List}
 use Prim.Native.Nat.{ℕ, ◌+◌, ◌≤◌, ◌<◌}
 use native.Mathlib.Omega.{arith}
@@ -18,7 +18,7 @@ use Rattle.correspond.specs.declared.Round.TheVariants.{Stays, Splits}
 use Rattle.correspond.specs.Rounds.{Running}
 use Rattle.correspond.specs.Verdicts.{Lent, out_of_room, next_of, RoundSays, SettledFrom, SettleSays}
 use Rattle.correspond.proofs.Verdicts.{lent_after}
-use Rattle.correspond.proofs.Rounds.{running_none, running_more, running-settled, running_few, running_over}
+use Rattle.correspond.proofs.Rounds.{running_more, running-settled, running_few, running_over}
 
 -- r rounds have been worked on g₀ with the words w and the head a, and the table has the front again
 pub record Settling (p : Pair) (h h' g₀ w : List ℕ) (a : Head) (t g : List ℕ) (b : Head) (r : ℕ) : Type 0 where
@@ -28,15 +28,6 @@ pub record Settling (p : Pair) (h h' g₀ w : List ℕ) (a : Head) (t g : List �
   pub run : (proposal : List ℕ) → g₀ ≡ T (left p) (right p) proposal 0 → Running (room_of w) a.most (left p) (right p) proposal r g b.most
 
 module _ {p : Pair} {h h' g₀ w : List ℕ} {a : Head} where
-  pub settling_none : Front p w a h h' → Settling p h h' g₀ w a w g₀ a 0
-  settling_none f = record {
-    size = refl;
-    lent = record { room = refl; rest = refl };
-    front = f;
-    run = λ proposal e. subst (λ (g : List ℕ). Running (room_of w) a.most (left p) (right p) proposal 0 g a.most) (sym e)
-        (running_none (room_of w) a.most (left p) (right p) proposal);
-  }
-
   module _ {t g : List ℕ} {hd : Head} {r : ℕ} (s : Settling p h h' g₀ w a t g hd r) {t' : List ℕ} {b : Head} {g' : List ℕ} where
     pub settling_next : 0 < joint p → length g₀ ≡ joint p → RoundSays p h h' g t hd t' b g' (Ok Splits) → Settling p h h' g₀ w a t' g' b (r + 1)
     unfolding RoundSays next_of joint

@@ -51,8 +51,8 @@ module _ {p : Pair} {w : List ℕ} {a : Head} {u : List ℕ} {b : Head} {h h' : 
   front_counted e g long = f.counted g long ∙ ap (λ (m : ℕ). max m (step_count (left p) (right p) g)) e
 
 -- what is said of a table's words is said of the array that they were lent from
-pub check_lent : {p : Pair} {g w w' u u' : List ℕ} {z : Result Done Refused} → w ≡ w' → u' ≡ u → CheckSays p g w u z → CheckSays p g w' u' z
-check_lent {p} {g} {u = u} {z = z} e d c = rw (← e, d) c
+pub check_lent : {p : Pair} {g w u u' : List ℕ} {z : Result Done Refused} → u' ≡ u → CheckSays p g w u z → CheckSays p g w u' z
+check_lent d c = rw d c
 
 -- what `==` says of two slices
 slices_same : (xs ys : List ℕ) → pointwise eqb xs ys ≡ same_list xs ys
@@ -76,33 +76,37 @@ module _ {p : Pair} {g : List ℕ} (ok : Grouped p g) where
   -- ## Check
 
   module _ (w : List ℕ) where
-    pub check_no_start : (a : Head) (u : List ℕ) (b : Head) (ids : List ℕ) (full : Full) → StartSays p w a u b ids (Err full)
+    pub check_no_start : {x : List ℕ} → x ≡ w → (a : Head) (u : List ℕ) (b : Head) (ids : List ℕ) (full : Full) → StartSays p x a u b ids (Err full)
         → CheckSays p g w u (Err (out_of_room 0))
     unfolding StartSays ListSays answer_of refusal_of file_of
-    check_no_start a u b ids full x = record { answer = sym (out_at-start (room_of w) (left p) (right p) g x.over); lent = exceeds_lent x }
+    check_no_start e a u b ids full says =
+        let x = rw e at says in
+        record { answer = sym (out_at-start (room_of w) (left p) (right p) g x.over); lent = exceeds_lent x }
 
     -- the start list has room, and is counted
-    pub record Started (u : List ℕ) (b : Head) (v : ℕ) : Type 0 where
+    pub record Started (u : List ℕ) (b : Head) (ids : List ℕ) : Type 0 where
       pub fits : start_count (left p) (right p) ≤ room_of w
       pub most : b.most ≡ start_count (left p) (right p)
-      pub fault : v ≡ start_fault (left p) (right p) g
+      pub fault : fault_by g ids ≡ start_fault (left p) (right p) g
       pub lent : Lent w u
 
-    pub started : (a : Head) (u : List ℕ) (b : Head) (ids : List ℕ) (done : Unit {0}) (v : ℕ) → StartSays p w a u b ids (Ok done) → a.most ≡ 0
-        → v ≡ fault_by g ids → Started u b v
+    pub started : {x : List ℕ} → x ≡ w → (a : Head) (u : List ℕ) (b : Head) (ids : List ℕ) (done : Unit {0}) → StartSays p x a u b ids (Ok done)
+        → a.most ≡ 0 → Started u b ids
     unfolding StartSays ListSays
-    started a u b ids done v f none is = record {
-      fits = f.fits;
-      most = f.most ∙ (rw none (omega arith));
-      fault = is ∙ start_fault_lem (left p) (right p) g ids long (all_tell ids _ f.tells);
-      lent = fits_lent f;
-    }
+    started e a u b ids done says none =
+        let f = rw e at says in
+        record {
+          fits = f.fits;
+          most = f.most ∙ (rw none (omega arith));
+          fault = start_fault_lem (left p) (right p) g ids long (all_tell ids _ f.tells);
+          lent = fits_lent f;
+        }
 
-    module _ {u : List ℕ} {b : Head} {v : ℕ} (s : Started u b v) where
-      pub check-start : v < length g → CheckSays p g w u (Ok (Undecided Start v 0 b.most))
+    module _ {u : List ℕ} {b : Head} {ids : List ℕ} (s : Started u b ids) where
+      pub check-start : {v : ℕ} → v ≡ fault_by g ids → v < length g → CheckSays p g w u (Ok (Undecided Start v 0 b.most))
       unfolding answer_of done_of reason_of
-      check-start l = record {
-        answer = rw (s.most, s.fault) (sym (start-differs (room_of w) (left p) (right p) g s.fits (omega (arith, s.fault, long, l))));
+      check-start is l = record {
+        answer = rw (s.most, is, s.fault) (sym (start-differs (room_of w) (left p) (right p) g s.fits (omega (arith, is, s.fault, long, l))));
         lent = s.lent;
       }
 
@@ -112,7 +116,7 @@ module _ {p : Pair} {g : List ℕ} (ok : Grouped p g) where
       pub start : total (left p) (right p) ≤ start_fault (left p) (right p) g
       pub lent : Lent w u
 
-    pub passed : {u : List ℕ} {b : Head} {v : ℕ} → Started u b v → length g ≤ v → Passed u
+    pub passed : {u : List ℕ} {b : Head} {ids : List ℕ} → Started u b ids → length g ≤ fault_by g ids → Passed u
     passed s l = record { fits = s.fits; start = omega (arith, s.fault, long, l); lent = s.lent }
 
     passed_on : {u u' : List ℕ} → Passed u → Lent u u' → Passed u'
@@ -141,36 +145,36 @@ module _ {p : Pair} {g : List ℕ} (ok : Grouped p g) where
       pub passed : Passed u
       pub counted : Counted p b g
 
-    pub fronted : {u : List ℕ} {b : Head} {v : ℕ} → Started u b v → length g ≤ v
+    pub fronted : {u : List ℕ} {b : Head} {ids : List ℕ} → Started u b ids → length g ≤ fault_by g ids
         → {u' h h' : List ℕ} {b' : Head} → FrontDone p u b u' b' h h' → Fronted u' b'
     fronted s l f = record { passed = passed_on (passed s l) (front_lent f); counted = front_counted f s.most g ok.size }
 
     -- the step list is worked
-    pub record Stepped (u : List ℕ) (b : Head) (v : ℕ) : Type 0 where
+    pub record Stepped (u : List ℕ) (b : Head) (ids : List ℕ) : Type 0 where
       pub passed : Passed u
       pub fits : step_count (left p) (right p) g ≤ room_of w
       pub most : b.most ≡ max (start_count (left p) (right p)) (step_count (left p) (right p) g)
-      pub fault : v ≡ step_fault (left p) (right p) g
+      pub fault : fault_by g ids ≡ step_fault (left p) (right p) g
 
     pub stepped : {u : List ℕ} {b : Head} → Fronted u b
-        → (u' : List ℕ) (b' : Head) (ids : List ℕ) (done : Unit {0}) (v : ℕ) → StepSays p g u b u' b' ids (Ok done) → v ≡ fault_by g ids → Stepped u' b' v
+        → (u' : List ℕ) (b' : Head) (ids : List ℕ) (done : Unit {0}) → StepSays p g u b u' b' ids (Ok done) → Stepped u' b' ids
     unfolding StepSays ListSays
-    stepped s u' b' ids done v f is = record {
+    stepped s u' b' ids done f = record {
       passed = passed_on s.passed (fits_lent f);
       fits = omega (arith, f.fits, s.passed.lent.room);
       most = f.most ∙ s.counted;
-      fault = is ∙ step_fault_lem (left p) (right p) g ids long (all_tell ids _ f.tells);
+      fault = step_fault_lem (left p) (right p) g ids long (all_tell ids _ f.tells);
     }
 
-    module _ {u : List ℕ} {b : Head} {v : ℕ} (s : Stepped u b v) where
-      pub check-step : v < length g → CheckSays p g w u (Ok (Undecided Step v 0 b.most))
+    module _ {u : List ℕ} {b : Head} {ids : List ℕ} (s : Stepped u b ids) where
+      pub check-step : {v : ℕ} → v ≡ fault_by g ids → v < length g → CheckSays p g w u (Ok (Undecided Step v 0 b.most))
       unfolding answer_of done_of reason_of
-      check-step l = record {
-        answer = rw (s.most, s.fault) (sym (step-differs (room_of w) (left p) (right p) g s.passed.fits s.passed.start s.fits (omega (arith, s.fault, long, l))));
+      check-step is l = record {
+        answer = rw (s.most, is, s.fault) (sym (step-differs (room_of w) (left p) (right p) g s.passed.fits s.passed.start s.fits (omega (arith, is, s.fault, long, l))));
         lent = s.passed.lent;
       }
 
-      pub check_outputs : length g ≤ v → {z : Result Done Refused} → answer_of z ≡ paper.outputs_verdict (left p) (right p) g 0 b.most → CheckSays p g w u z
+      pub check_outputs : length g ≤ fault_by g ids → {z : Result Done Refused} → answer_of z ≡ paper.outputs_verdict (left p) (right p) g 0 b.most → CheckSays p g w u z
       check_outputs l is = record {
         answer = is ∙ rw s.most (sym (both_hold (room_of w) (left p) (right p) g s.passed.fits s.passed.start s.fits (omega (arith, s.fault, long, l))));
         lent = s.passed.lent;
@@ -187,11 +191,6 @@ module _ {p : Pair} {g : List ℕ} (ok : Grouped p g) where
       list_fits : RoundFits p g w a u b
       unfolding StepSays ListSays
       list_fits = record { fits = s.fits; most = s.most; lent = fits_lent s }
-
-      -- the ids of the list
-      pub ids_long : length ids ≡ length g
-      unfolding StepSays ListSays
-      ids_long = s.size ∙ sym ok.size
 
       next_is : split_by g ids ≡ next_of p g
       unfolding StepSays ListSays next_of joint

@@ -1,6 +1,7 @@
--- What is known before `map_err` from what is known after it. Assumes nothing.
+-- What is known before `map_err` from what is known after it, and what a `?` returns. Assumes nothing.
 use mathlib.Core.Path.{◌≡◌, refl}
 use Rattle.std.specs.Prelude.{Result, Ok, Err, MatchResult, IsErrAnd}
+use Rattle.std.proofs.lemmas.Result.{err_from_is_err_and}
 
 pub mapped_ok : {T E D : Type 0} (P : E → D → Type 0) (r : Result T E) (s : Result T D) (x : T)
     → MatchResult r (λ y. s ≡ Ok y) (λ e. IsErrAnd s (P e)) → s ≡ Ok x → r ≡ Ok x
@@ -11,3 +12,7 @@ pub mapped_err : {T E D : Type 0} (P : E → D → Type 0) (f : E → D) → ((e
     → MatchResult r (λ y. s ≡ Ok y) (λ e. IsErrAnd s (P e)) → s ≡ Err d → (e : E) × (r ≡ Err e) × (d ≡ f e)
 mapped_err P f h (Ok y) s d m q = cc
 mapped_err P f h (Err e) s d m q = (e, refl, h e d (rw q at m))
+
+-- at the exit of a `?` whose error stays as it was
+pub exit_is : {T E : Type 0} {e : E} (r : Result T E) → IsErrAnd r (λ y. y ≡ e) → r ≡ Err e
+exit_is r h = let p = err_from_is_err_and r h in rw (p.1, p.2)

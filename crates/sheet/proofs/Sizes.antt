@@ -1,63 +1,44 @@
--- The length that a sheet takes, counted signal by signal. Assumes nothing.
-use mathlib.Core.Path.{◌≡◌, ap}
-use mathlib.Core.List.{List}
-use Prim.Native.Nat.{ℕ, ◌+◌, ◌*◌, ◌≤◌, ◌<◌}
+-- The length that a sheet takes: what the records of its signals take, its outputs, and END. Assumes nothing.
+use mathlib.Core.Path.{◌≡◌, refl}
+use mathlib.Core.List.{List, [], ◌∷◌, map}
+use Prim.Native.Nat.{ℕ, ◌+◌, ◌*◌, ◌≤◌}
 use native.Mathlib.Omega.{arith}
-use lib.ListN.{length, get_or, take, length-append}
-use lib.Seq.{take_all, length-take-le}
+use lib.ListN.{length, length-append}
+use Rattle.std.specs.Prelude.{sum_by}
+use Rattle.std.proofs.lemmas.List.Sums.{sum_by-cons}
 use Rattle.arrayvec.specs.ArrayVec.{array_vec_len}
-use Rattle.meaning.specs.Numbers.{max_outputs}
+use Rattle.meaning.specs.Numbers.{max_signals}
 use Rattle.meaning.specs.Basic.{concat_map}
 use Rattle.meaning.specs.Sheet as paper
+use Rattle.sheet.specs.declared.Signal.{Signal}
 use Rattle.sheet.specs.declared.Sheet.{Sheet}
-use Rattle.sheet.specs.Stored.{number_of_kind, signal_of, sheet_of, no_signal, nth_signal, Kept}
-use Rattle.sheet.proofs.Whole.{length_signals, length_outputs, signal_at}
-use Rattle.sheet.proofs.Bytes.{signal_length, concat_more, signals_three, outputs_three, sheet_length}
+use Rattle.sheet.specs.Stored.{number_of_kind, signal_of, sheet_of, Kept}
+use Rattle.sheet.proofs.Whole.{length_signals, length_outputs}
+use Rattle.sheet.proofs.Bytes.{signal_length, signals_three, outputs_three, sheet_length}
 
--- the bytes of the first i signals
-abbrev first : Sheet → ℕ → List ℕ
-first s i = concat_map paper.bytes_of_signal (take i (sheet_of s).signals)
+-- how many bytes a signal's record takes
+abbrev pub takes : Signal → ℕ
+takes x = 1 + paper.body_of (number_of_kind x.kind)
 
--- n bytes are taken by the outputs, END and the first i signals
-pub record Sized (s : Sheet) (i n : ℕ) : Type 0 where
-  pub within : i ≤ array_vec_len s.signals
-  pub is : n ≡ 3 * array_vec_len s.outputs + 1 + length (first s i)
-
-pub sized_none : {s : Sheet} → Sized s 0 (3 * array_vec_len s.outputs + 1)
+signals_take : (xs : List Signal) → sum_by takes xs ≡ length (concat_map paper.bytes_of_signal (map signal_of xs))
 unfolding concat_map
-sized_none = record { within = omega arith; is = omega arith }
+signals_take [] = refl
+signals_take (x ∷ xs) =
+    omega (
+      arith,
+      sum_by-cons takes x xs,
+      signal_length x,
+      signals_take xs,
+      length-append (paper.bytes_of_signal (signal_of x)) (concat_map paper.bytes_of_signal (map signal_of xs)),
+    )
 
-module _ {s : Sheet} (w : Kept s) {i n : ℕ} (z : Sized s i n) where
-  pub sized_few : n ≤ 3 * max_outputs + 1 + 3 * i
-  sized_few =
-      let t : length (take i (sheet_of s).signals) ≡ i = length-take-le i (sheet_of s).signals (omega (arith, z.within, length_signals s)) in
-      omega (arith, z.is, signals_three (take i (sheet_of s).signals), t, w.few_outputs)
+module _ (s : Sheet) {n : ℕ} (e : n ≡ sum_by takes s.signals.items) where
+  signals_is : n ≡ length (concat_map paper.bytes_of_signal (sheet_of s).signals)
+  unfolding sheet_of
+  signals_is = rw e (signals_take s.signals.items)
 
-  pub sized_more : i < array_vec_len s.signals → {m : ℕ}
-      → m ≡ paper.body_of (number_of_kind (nth_signal s i).kind) → Sized s (i + 1) (n + (1 + m))
-  sized_more h e =
-      let more = concat_more paper.bytes_of_signal (sheet_of s).signals i (signal_of no_signal) (omega (arith, length_signals s)) in
-      record {
-        within = omega arith;
-        is =
-            omega (
-              arith,
-              e,
-              z.is,
-              ap length more,
-              length-append (first s i) (paper.bytes_of_signal (get_or (sheet_of s).signals i (signal_of no_signal))),
-              ap (λ (y : paper.Signal). length (paper.bytes_of_signal y)) (signal_at s i (signal_of no_signal) h),
-              signal_length (nth_signal s i),
-            );
-      }
+  pub sized_few : Kept s → n ≤ 3 * max_signals
+  sized_few w = omega (arith, signals_is, signals_three (sheet_of s).signals, length_signals s, w.few_signals)
 
-  pub sized_end : array_vec_len s.signals ≤ i → n ≡ length (paper.bytes_of_sheet (sheet_of s))
-  sized_end h =
-      omega (
-        arith,
-        z.is,
-        sheet_length (sheet_of s),
-        ap (λ (l : List paper.Signal). length (concat_map paper.bytes_of_signal l)) (take_all i (sheet_of s).signals (omega (arith, length_signals s))),
-        outputs_three (sheet_of s).outputs,
-        length_outputs s,
-      )
+  pub sized : 3 * array_vec_len s.outputs + 1 + n ≡ length (paper.bytes_of_sheet (sheet_of s))
+  sized = omega (arith, signals_is, sheet_length (sheet_of s), outputs_three (sheet_of s).outputs, length_outputs s)

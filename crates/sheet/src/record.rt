@@ -3,7 +3,7 @@ ghost use Rattle.std.specs.Prelude.{◌≡◌, ◌&&◌, [], ◌<◌, ◌≤◌,
 ghost use Rattle.meaning.specs.Numbers.{REGISTER};
 ghost use Rattle.meaning.specs.Sheet.{body_of, exceeds_limits};
 ghost use Rattle.sheet.specs.Stored.{number_of_kind, Kept};
-ghost use Rattle.sheet.specs.Record.{number_of_record, Begins, part_of, full, signal_in, length_of, late_of, Judged};
+ghost use Rattle.sheet.specs.Record.{number_of_record, Begins, part_of, full, signal_in, kind_of, length_of, late_of, Judged};
 
 use crate::{Kind, Output, Sheet, Signal, kind};
 use answer::Refusal;
@@ -24,16 +24,21 @@ pub(crate) enum Record {
 }
 
 impl Record {
+    fn kind(self) -> RecordKind
+        ensures { result ≡ kind_of self }
+    {
+        match self {
+            Record::Signal(x) => RecordKind::Signal(x.kind),
+            Record::Output(_) => RecordKind::Output,
+            Record::End => RecordKind::End,
+        }
+    }
+
     // How many bytes of a file it takes.
-    #[tactic(auto, unfolding(meaning::specs::Sheet::body_of))]
     pub(crate) fn len(self) -> usize
         ensures { result ≡ length_of self }
     {
-        match self {
-            Record::Signal(x) => 1 + x.kind.body(),
-            Record::Output(_) => 3,
-            Record::End => 1,
-        }
+        1 + self.kind().body()
     }
 }
 
@@ -76,7 +81,8 @@ impl Kind {
 impl RecordKind {
     #[tactic(auto, unfolding(meaning::specs::Sheet::body_of))]
     fn body(self) -> usize
-        ensures { result ≡ body_of (number_of_record self) }
+        ensures value { result ≡ body_of (number_of_record self) }
+        ensures short { result ≤ 2 }
     {
         match self {
             RecordKind::Signal(kind) => kind.body(),

@@ -14,12 +14,9 @@ fn needed(s: &Sheet) -> usize
     requires { Whole s.now }
     ensures { result ≡ length (bytes_of_sheet (sheet_of s.now)) }
 {
+    let signals: usize = s.signals.iter().map(|x| 1 + x.kind.body()).sum();
     // an output takes three bytes, and END one
-    let mut n = 3 * s.outputs.len() + 1;
-    for x in s.signals.iter() {
-        n += 1 + x.kind.body();
-    }
-    n
+    3 * s.outputs.len() + 1 + signals
 }
 
 // Puts bytes at an offset, and gives the offset after them.

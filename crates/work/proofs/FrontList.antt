@@ -28,8 +28,13 @@ use Rattle.work.proofs.Closing.{forgot_bare}
 use Rattle.work.proofs.StepList.{front_within, front_exceeds}
 
 -- the words x of the emptied table, and two arrays of n and n' places, that h and h one tick on are put in
-module _ {p : Pair} (alike : Alike p) {n n' : ℕ} (size : n ≡ joint p) (size' : n' ≡ joint p)
-    {w : List ℕ} {a : Head} {x : List ℕ} {e : Head} (empty : Forgets w a 0 x e) where
+pub record Emptied (p : Pair) (n n' : ℕ) (w : List ℕ) (a : Head) (x : List ℕ) (e : Head) : Type 0 where
+  pub alike : Alike p
+  pub size : n ≡ joint p
+  pub size' : n' ≡ joint p
+  pub empty : Forgets w a 0 x e
+
+module _ {p : Pair} {n n' : ℕ} {w : List ℕ} {a : Head} {x : List ℕ} {e : Head} (s : Emptied p n n' w a x e) where
   abbrev A : paper.Sheet
   A = left p
 
@@ -37,22 +42,22 @@ module _ {p : Pair} (alike : Alike p) {n n' : ℕ} (size : n ≡ joint p) (size'
   B = right p
 
   front_few : n ≤ 2 * max_signals
-  front_few = omega (arith, size, joint_few p alike)
+  front_few = omega (arith, s.size, joint_few p s.alike)
 
   -- the array that f is put in
   zeros_sized : length (take n zeros) ≡ joint p
-  zeros_sized = zeros_front n front_few ∙ size
+  zeros_sized = zeros_front n front_few ∙ s.size
 
   pub now_asks : BothAsks p Now x e (length (take n zeros)) n
   unfolding Earlier
   now_asks = record {
-    f_asks = record { ready = record { good = rw empty.used empty.good; tallied = omega (arith, empty.used) }; alike = alike; sized = zeros_sized; earlier = tt };
-    h_sized = size;
+    f_asks = record { ready = record { good = rw s.empty.used s.empty.good; tallied = omega (arith, s.empty.used) }; alike = s.alike; sized = zeros_sized; earlier = tt };
+    h_sized = s.size;
   }
 
   front_over : (u : List ℕ) (b : Head) (any any' : List ℕ) (full : Full) → Misses x e (front_trees A B) u b → FrontSays p w a u b any any' (Err full)
   unfolding FrontSays
-  front_over u b any any' full k g groups = front_exceeds p g groups (forgot_bare empty) u b k
+  front_over u b any any' full k g groups = front_exceeds p g groups (forgot_bare s.empty) u b k
 
   module _ (u : List ℕ) (b : Head) (fs hs : List ℕ) where
     pub now_over : (full : Full) → BothSays p Now x e u b fs hs (Err full) → (any : List ℕ) → FrontSays p w a u b hs any (Err full)
@@ -65,7 +70,7 @@ module _ {p : Pair} (alike : Alike p) {n n' : ℕ} (size : n ≡ joint p) (size'
       both = says
 
       size_f : length fs ≡ n
-      size_f = both.f_size ∙ sym size
+      size_f = both.f_size ∙ sym s.size
 
       -- the array that f was put in
       abbrev array : List ℕ
@@ -82,11 +87,11 @@ module _ {p : Pair} (alike : Alike p) {n n' : ℕ} (size : n ≡ joint p) (size'
       next_asks now is = record {
         f_asks = record {
           ready = gains_ready both.gains;
-          alike = alike;
+          alike = s.alike;
           sized = zeros_sized;
           earlier = rw (is, after_front n fs size_f) (both.f_size, both.f_stand);
         };
-        h_sized = size';
+        h_sized = s.size';
       }
 
       front : {now : Bor (List ℕ)} (u' : List ℕ) (c : Head) (fs' hs' : List ℕ) → Both p (Next now) u b u' c fs' hs' → FrontDone p w a u' c hs hs'
@@ -95,18 +100,18 @@ module _ {p : Pair} (alike : Alike p) {n n' : ℕ} (size : n ≡ joint p) (size'
           let all : Gains x e (front_trees A B) u' c = gains_after both.gains k.gains in
           record {
             front = record {
-              alike = alike;
+              alike = s.alike;
               ready = gains_ready all;
-              nodes = λ i lo hi. all.new i (omega (arith, empty.used)) hi;
+              nodes = λ i lo hi. all.new i (omega (arith, s.empty.used)) hi;
               held = held_append (held_kept k.gains.keeps (both_held both)) (both_held k);
               now_stand = stand_kept k.gains.keeps both.h_stand;
               next_stand = k.h_stand;
               now_size = both.h_size;
               next_size = k.h_size;
             };
-            counted = λ g groups. omega (arith, all.tally.most, empty.most, front_within p g groups (forgot_bare empty) u' c all);
-            room = all.room ∙ empty.room;
-            rest = all.rest ∙ empty.rest;
+            counted = λ g groups. omega (arith, all.tally.most, s.empty.most, front_within p g groups (forgot_bare s.empty) u' c all);
+            room = all.room ∙ s.empty.room;
+            rest = all.rest ∙ s.empty.rest;
           }
 
       pub front_says : (now : Bor (List ℕ)) (u' : List ℕ) (c : Head) (fs' hs' : List ℕ) (z : Result (Unit {0}) Full) → BothSays p (Next now) u b u' c fs' hs' z → FrontSays p w a u' c hs hs' z

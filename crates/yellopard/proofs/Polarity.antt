@@ -92,17 +92,21 @@ module _ (x y : ℕ) (zs in_a in_b fst snd : List Bool) (few : x + y ≤ length 
   both_is : both ≡ fst ++ (snd ++ post_of x (x + y - x) half)
   both_is = rw (take_at fst (drop x zs) x long-fst) refl
 
-  pub first_put : (v : ℕ) → v < x → bit both v ≡ bit in_a v
+  first_put : (v : ℕ) → v < x → bit both v ≡ bit in_a v
   first_put v l =
       ap (λ (r : List Bool). bit r v) both_is ∙ get_or-append fst (snd ++ post_of x (x + y - x) half) false v (omega (arith, long-fst))
       ∙ ap (λ (r : List Bool). bit r v) fst-is ∙ get_or-take x in_a v false l
 
-  pub second_put : (v : ℕ) → v < y → bit both (x + v) ≡ bit in_b v
+  second_put : (v : ℕ) → v < y → bit both (x + v) ≡ bit in_b v
   second_put v l =
       let at : x + v - x ≡ v = omega arith in
       ap (λ (r : List Bool). bit r (x + v)) both_is
       ∙ get_or-append_right fst (snd ++ post_of x (x + y - x) half) x (x + v) false long-fst (omega arith)
       ∙ rw at (get_or-append snd (post_of x (x + y - x) half) false v (omega (arith, long-snd)) ∙ ap (λ (r : List Bool). bit r v) snd-is ∙ get_or-take y in_b v false l)
 
-  pub both_long : length both ≡ length zs
+  both_long : length both ≡ length zs
   both_long = rw both_is (simp (length-append, length-drop) (omega (arith, long-fst, long-snd, few)))
+
+  -- so the first places are as the one list, the next as the other, and no place was added
+  pub laid : ((v : ℕ) → v < x → bit both v ≡ bit in_a v) × ((v : ℕ) → v < y → bit both (x + v) ≡ bit in_b v) × (length both ≡ length zs)
+  laid = (first_put, second_put, both_long)

@@ -1,19 +1,12 @@
 -- The step list, the split, whether anything was split, and what is forgotten then. Assumes nothing.
-use native.Mathlib.Omega.{arith}
 use Rattle.std.proofs.lemmas.Result.{err_from_is_err_and}
-use Rattle.correspond.proofs.Pairing.{few_signals, places}
-use Rattle.correspond.proofs.Verdicts.{round_over, ids_long, round_stays, round_splits}
+use Rattle.correspond.proofs.Verdicts.{round_over, round_stays, round_splits}
 use Rattle.correspond.proofs.one_round.Goals as goal
 
 pub returns-in_err-step_list-clause-round : goal.returns-in_err-step_list-clause-round
 returns-in_err-step_list-clause-round c =
     let p = err_from_is_err_and c.from_residual.result c.from_residual.ensures.1 in
     rw (p.1, p.2) (round_over c.requires.grouped _ _ _ _ _ _ _ _ c.in_err-step_list.ensures.list)
-
-pub split-requires : goal.split-requires
-split-requires c =
-    let ok = c.requires.grouped in
-    (ids_long ok c.args.normals.h.now c.args.normals.h_next.now _ _ _ _ _ _ c.in_ok-step_list.ensures.list, places ok, omega (arith, few_signals ok))
 
 pub returns-then-eq-clause-round : goal.returns-then-eq-clause-round
 returns-then-eq-clause-round c =

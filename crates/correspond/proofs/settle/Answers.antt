@@ -1,11 +1,8 @@
 -- The rounds so far, and how they end. Assumes nothing.
-use mathlib.Core.Path.{refl, ◌∙◌}
+use mathlib.Core.Path.{◌∙◌}
 use native.Mathlib.Omega.{arith}
-use Rattle.correspond.proofs.Settling.{settling_none, settling_next, settling_stays, settling_over, settling_past}
+use Rattle.correspond.proofs.Settling.{settling_next, settling_stays, settling_over, settling_past}
 use Rattle.correspond.proofs.settle.Goals as goal
-
-pub loop-r-init : goal.loop-r-init
-loop-r-init c = record { same_reference = refl; settling = settling_none c.requires.front }
 
 pub returns-in-Ok-Stays-clause-settled : goal.returns-in-Ok-Stays-clause-settled
 returns-in-Ok-Stays-clause-settled c = settling_stays c.loop-r.invariant.settling (rw c.in-Ok-Stays.field-0-is at c.in-Ok-Stays.ensures.round)

@@ -8,7 +8,7 @@ use Rattle.diagram.proofs.Early.{slot_asks}
 use Rattle.diagram.proofs.Combining.{known_has, early_has, some_left, low_asks, low_full, high_asks, high_full, make_asks, finished}
 use Rattle.diagram.proofs.Noting.{note_asks, has_noted}
 use Rattle.diagram.proofs.+combine_from.Goals as goal
-use Rattle.diagram.proofs.+combine_from.Goals.{After-early-2, After-make_in, in-Some-early, in-None+in_ok-low-in-None, in-Some-early-2, in-None-early+in_ok-high-in-None-early}
+use Rattle.diagram.proofs.+combine_from.Goals.{After-early-2, After-make_in-arg-2-1, After-make_in, in-Some-early, in-None+in_ok-low-in-None, in-Some-early-2, in-None-early+in_ok-high-in-None-early}
 
 -- the low branches have their node
 low_has : (t : ℕ) (c : After-early-2 t) → Has c.args.t.now (record { used = c.args.used; most = c.args.most })
@@ -21,6 +21,20 @@ low_has t c = elim c.match-early.branch [
   | in-None+in_ok-low-in-None w ↦ rw (w.t-is, w.low-is) w.in_ok-low-in-None.ensures
 ]
 
+-- and so do the high ones
+high_has : (t : ℕ) (c : After-make_in-arg-2-1 t) → Has c.args.t.now (record { used = c.args.used; most = c.args.most })
+    (combined c.args.t.now c.args.used (op_of c.args.op) c.split-s.result.a.low c.split-s.result.b.low) c.match-early.t c.match-early.low.head c.match-early.low.id
+    → Has c.match-early.t c.match-early.low.head
+    (combined c.match-early.t c.match-early.low.head.used (op_of c.args.op) c.split-s.result.a.high c.split-s.result.b.high)
+    c.match-early-2.t c.match-early-2.high.head c.match-early-2.high.id
+unfolding Says
+high_has t c low = elim c.match-early-2.branch [
+  | in-Some-early-2 w ↦
+      rw (w.t-is, w.high-is)
+      (early_has _ _ c.args.op _ _ _ _ (high_asks _ _ c.args.op _ _ _ _ c.requires.0 c.requires.1 c.split-s.ensures _ _ _ low) w.in-Some-early-2.ensures)
+  | in-None-early+in_ok-high-in-None-early w ↦ rw (w.t-is, w.high-is) w.in_ok-high-in-None-early.ensures
+]
+
 -- so what the last node gives is the answer
 made_is : (t : ℕ) (c : After-make_in t) → Has c.args.t.now (record { used = c.args.used; most = c.args.most })
     (combined c.args.t.now c.args.used (op_of c.args.op) c.split-s.result.a.low c.split-s.result.b.low) c.match-early.t c.match-early.low.head c.match-early.low.id
@@ -28,15 +42,7 @@ made_is : (t : ℕ) (c : After-make_in t) → Has c.args.t.now (record { used = 
     c.make_in.new.t c.make_in.result
 unfolding Says
 made_is t c low =
-    let high : Has c.match-early.t c.match-early.low.head
-    (combined c.match-early.t c.match-early.low.head.used (op_of c.args.op) c.split-s.result.a.high c.split-s.result.b.high)
-    c.match-early-2.t c.match-early-2.high.head c.match-early-2.high.id =
-    elim c.match-early-2.branch [
-      | in-Some-early-2 w ↦
-          rw (w.t-is, w.high-is)
-          (early_has _ _ c.args.op _ _ _ _ (high_asks _ _ c.args.op _ _ _ _ c.requires.0 c.requires.1 c.split-s.ensures _ _ _ low) w.in-Some-early-2.ensures)
-      | in-None-early+in_ok-high-in-None-early w ↦ rw (w.t-is, w.high-is) w.in_ok-high-in-None-early.ensures
-    ] in
+    let high = high_has t (goal.at.After-make_in t c).After-make_in-arg-2-1 low in
     finished _ _ c.args.op _ _ _ _ c.requires.0 c.requires.1 c.split-s.ensures _ _ _ low _ _ _ high _ _ c.make_in.ensures
 
 pub hashed-slot-requires : goal.hashed-slot-requires
@@ -89,16 +95,9 @@ returns-in_err-high-in-None-early t c =
 pub make_in-requires : goal.make_in-requires
 unfolding Says
 make_in-requires t c =
-    let low = low_has t (goal.at.make_in-requires t c).After-early-2 in
-    let high : Has c.match-early.t c.match-early.low.head
-    (combined c.match-early.t c.match-early.low.head.used (op_of c.args.op) c.split-s.result.a.high c.split-s.result.b.high)
-    c.match-early-2.t c.match-early-2.high.head c.match-early-2.high.id =
-    elim c.match-early-2.branch [
-      | in-Some-early-2 w ↦
-          rw (w.t-is, w.high-is)
-          (early_has _ _ c.args.op _ _ _ _ (high_asks _ _ c.args.op _ _ _ _ c.requires.0 c.requires.1 c.split-s.ensures _ _ _ low) w.in-Some-early-2.ensures)
-      | in-None-early+in_ok-high-in-None-early w ↦ rw (w.t-is, w.high-is) w.in_ok-high-in-None-early.ensures
-    ] in (
+    let place = goal.at.make_in-requires t c in
+    let low = low_has t place.After-early-2 in
+    let high = high_has t place.After-make_in-arg-2-1 low in (
       make_asks _ _ c.args.op _ _ _ _ c.requires.0 c.requires.1 c.split-s.ensures _ _ _ low _ _ _ high,
       omega (arith, c.requires.2, low.grown.room, high.grown.room),
     )

@@ -1,18 +1,17 @@
+-- What is written takes the bytes of the signals' records, of the outputs and of END. Assumes nothing.
+use mathlib.Core.Path.{◌≡◌}
 use native.Mathlib.Omega.{arith}
-use Rattle.sheet.proofs.Sizes.{sized_none, sized_few, sized_more, sized_end}
+use Rattle.std.specs.Prelude.{sum_by}
+use Rattle.std.proofs.Common.{rules}
+use Rattle.sheet.proofs.Sizes.{takes, sized_few, sized}
 use Rattle.sheet.proofs.writer.needed.Goals as goal
+use Rattle.sheet.proofs.writer.needed.Goals.{After-len}
 
-pub loop-x-init : goal.loop-x-init
-loop-x-init c = rw c.len.ensures.value sized_none
+signals : (c : After-len) → c.sum-signals.result ≡ sum_by takes c.args.s.now.signals.items
+signals c = search rules
 
-pub overflow_add-n-in-loop-x-2 : goal.overflow_add-n-in-loop-x-2
-overflow_add-n-in-loop-x-2 c =
-    omega (arith, c.body.ensures.short, sized_few c.requires.kept c.loop-x.invariant, c.requires.kept.few_signals)
-
-pub loop-x-preserved : goal.loop-x-preserved
-loop-x-preserved c =
-    let is = c.deref-x-items.ensures.0 in
-    sized_more c.requires.kept c.loop-x.invariant (rw is at c.loop-x-test.true) (rw is at c.body.ensures.value)
+pub overflow_add-result-2 : goal.overflow_add-result-2
+overflow_add-result-2 c = omega (arith, sized_few c.args.s.now (signals c) c.requires.kept, c.len.ensures.value, c.requires.kept.few_outputs)
 
 pub returns : goal.returns
-returns c = sized_end c.requires.kept c.loop-x.invariant (rw c.deref-x-items.ensures.0 at c.loop-x-test.false)
+returns c = rw c.len.ensures.value (sized c.args.s.now (signals c))
