@@ -1,6 +1,6 @@
 -- Laws of the files of a call: the first that is refused ends it, and good ones go on with what they say. Assumes nothing.
 use Rattle.std.specs.Prelude.{Result, Ok, Err, MatchResult, IsErrAnd}
-use mathlib.Core.Path.{◌≡◌, refl, sym, ap, ap₂, ◌∙◌}
+use mathlib.Core.Path.{◌≡◌, sym, ap, ap₂, ◌∙◌}
 use mathlib.Core.List.{List}
 use Prim.Native.Nat.{ℕ, ◌+◌, ◌*◌, ◌≤◌}
 use native.Mathlib.Omega.{arith}
@@ -29,11 +29,6 @@ use Rattle.work.specs.Lists.{left, right, joint, Alike}
 use Rattle.work.proofs.Front.{zeros, zeros_front, after, after_front}
 use Rattle.correspond.specs.Verdicts.{Grouped}
 use Rattle.yellopard.specs.Calls.{PairAsks, FilesAre, FilesEnd, unlike_at}
-use Rattle.std.proofs.lemmas.Result.{err_from_is_err_and}
-
--- what a `?` that ends a call returns
-pub err_is : {T E : Type 0} {e : E} (r : Result T E) → IsErrAnd r (λ y. y ≡ e) → r ≡ Err e
-err_is r h = let p = err_from_is_err_and r h in rw (p.1, p.2) refl
 
 -- ## A call that ends with its files
 

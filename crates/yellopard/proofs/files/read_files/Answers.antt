@@ -4,9 +4,9 @@ use mathlib.Core.Path.{◌∙◌}
 use Rattle.answer.specs.declared.File.TheVariants.{A, B}
 use Rattle.answer.specs.Meant.{refused_in}
 use Rattle.sheet.proofs.Files.{reads_ok, reads_err}
-use Rattle.sheet.proofs.Mapped.{mapped_ok}
+use Rattle.sheet.proofs.Mapped.{mapped_ok, exit_is}
 use Rattle.work.proofs.Front.{zeros_front}
-use Rattle.yellopard.proofs.Stages.{err_is, ends_at_A, ends_at_B, TwoSheets, two_sheets, joint_few, pair_asks, ends_with_inputs, ends_with_outputs, ends_with-grouping, files_ready}
+use Rattle.yellopard.proofs.Stages.{ends_at_A, ends_at_B, TwoSheets, two_sheets, joint_few, pair_asks, ends_with_inputs, ends_with_outputs, ends_with-grouping, files_ready}
 use Rattle.yellopard.proofs.files.read_files.Goals as goal
 use Rattle.yellopard.proofs.files.read_files.Goals.{In_ok-new}
 
@@ -18,12 +18,12 @@ sheets c =
 pub returns-in_err-old : goal.returns-in_err-old
 returns-in_err-old c =
     let m = reads_err _ c.read_sheet.ensures c.map_err.ensures.cases (λ e. refused_in e A) (λ e d q. search rules) c.in_err-old.was in
-    rw (err_is c.from_residual.result c.from_residual.ensures.1, m.1) (ends_at_A {e = m.0} m.2)
+    rw (exit_is c.from_residual.result c.from_residual.ensures.1, m.1) (ends_at_A {e = m.0} m.2)
 
 pub returns-in_err-new : goal.returns-in_err-new
 returns-in_err-new c =
     let m = reads_err _ c.read_sheet-2.ensures c.map_err-2.ensures.cases (λ e. refused_in e B) (λ e d q. search rules) c.in_err-new.was in
-    rw (err_is c.from_residual-in_err-new.result c.from_residual-in_err-new.ensures.1, m.1) (ends_at_B (reads_ok _ c.read_sheet.ensures c.map_err.ensures.cases c.in_ok-old.was) {e = m.0} m.2)
+    rw (exit_is c.from_residual-in_err-new.result c.from_residual-in_err-new.ensures.1, m.1) (ends_at_B (reads_ok _ c.read_sheet.ensures c.map_err.ensures.cases c.in_ok-old.was) {e = m.0} m.2)
 
 pub returns-then-old-new : goal.returns-then-old-new
 returns-then-old-new c =
@@ -36,7 +36,7 @@ returns-then-len c =
 
 pub returns-in_err-map_err : goal.returns-in_err-map_err
 returns-in_err-map_err c =
-    rw (err_is c.from_residual-in_err-map_err.result c.from_residual-in_err-map_err.ensures.1)
+    rw (exit_is c.from_residual-in_err-map_err.result c.from_residual-in_err-map_err.ensures.1)
     (ends_with-grouping (sheets (goal.at.returns-in_err-map_err c).In_ok-new) _ c.if-old-new.false (rw (c.len.ensures.value, c.len-2.ensures.value) at c.if-len.false) _ _
     (rw (c.len-3.ensures.value, c.len-4.ensures.value) at c.read_classes.ensures) _ c.map_err-3.ensures.cases (λ e d q. search rules) c.in_err-map_err.was)
 
