@@ -51,7 +51,10 @@ fn read_full<F: Read>(file: &mut F, buffer: &mut [u8]) -> usize
     done
 }
 
+// Prints the line of an answer as `put_line` puts it, whose contract says each byte of it, the end of the line too: a `Report` that is printed
+// says nothing where it ends in an Err.
 pub fn print_answer<R: Print>(rt: &R, mode: Mode, answer: Answer) -> io::Result<()> {
-    let report = Report { mode, answer };
-    println!(rt; "{report}")
+    let mut text = [0u8; 128];
+    let count = put_line(mode, answer, &mut text);
+    rt.write_all(&text[..count])
 }

@@ -120,8 +120,8 @@ fn push_answer(mode: Mode, answer: Answer, line: &mut ArrayString<128>)
     }
 }
 
-// Puts the line at the start of the text, and answers its length. docs/PROMISES.md names this call, so it stays beside the Display; and it
-// cannot fail, as a `Report` can where its writer does, so it is not made of one.
+// Puts the line at the start of the text, and answers its length: what the programs print. It cannot fail, as a `Report` can where its writer
+// does, so it stays beside the Display and is not made of one.
 #[tactic(auto, using(crate::proofs::Text::line_end, std::proofs::lemmas::Slice::overwrites))]
 pub fn put_line(mode: Mode, answer: Answer, text: &mut [u8; 128]) -> usize
     ensures prefix_len { IsPrefixLen result text.new }
