@@ -16,10 +16,9 @@ use Rattle.tree.proofs.Function.{for_height, for_same, for_combine, for_compleme
 use Rattle.tree.proofs.NodeCount.{node_count_lem, node_count_is}
 use Rattle.diagram.specs.declared.Full.{Full}
 use Rattle.diagram.specs.declared.Head.{Head}
-use Rattle.diagram.specs.declared.Made.{Made}
 use Rattle.diagram.specs.Words.{room_of}
 use Rattle.diagram.specs.Table.{tree_at, glued, combined, Good}
-use Rattle.diagram.specs.Contract.{Keeps, Grown, Tally, Lacks, Says, Ready, Under, MakeAsks, CombineAsks, ComplementAsks}
+use Rattle.diagram.specs.Contract.{Keeps, Grown, Tally, Lacks, Gives, Ready, Under, MakeAsks, CombineAsks, ComplementAsks}
 use Rattle.diagram.specs.Functions.{Holds, AllHeld, Inside, Gained, Over, Outcome}
 use Rattle.diagram.proofs.Trees.{id_of_constant, constant_id, tree-constant, height-constant, node_inner, inner_id}
 use Rattle.diagram.proofs.Grown.{tally_none, tally_after, keeps_all, keeps_after}
@@ -113,38 +112,41 @@ variable_asks w a m v k t l = record {
 -- ## What the calls say of a function of the list
 
 module _ (w : List ℕ) (a : Head) (m : ℕ) (P : (List Bool → Bool) → Type 0) (i : Inside w a m P) (f : List Bool → Bool) (is : P f) where
-  pub outcome : (u : List ℕ) (r : Result Made Full) → Says w a (tree_for m f) u r → Outcome w a m P f u r
-  unfolding Says Outcome
-  outcome u (Ok r) s = record {
-    inside = inside_grown m P w a u r.head f is i s.grown s.tally;
+  pub outcome : (u : List ℕ) (b : Head) (r : Result ℕ Full) → Gives w a (tree_for m f) u b r → Outcome w a m P f u b r
+  unfolding Gives Outcome
+  outcome u b (Ok r) s = record {
+    inside = inside_grown m P w a u b f is i s.grown s.tally;
     holds = record { id = s.id; is = s.is };
     keeps = s.grown.keeps;
     tally = s.tally;
     room = s.grown.room;
     rest = s.grown.rest;
   }
-  outcome u (Err r) s = record {
-    tally = s.tally;
-    full = s.full;
-    room = s.grown.room;
-    rest = s.grown.rest;
-    over = λ row k c. inside_full m P row k c w a u r.head f is i s;
-  }
+  outcome u b (Err full) (s, e) = (
+    record {
+      tally = s.tally;
+      full = s.full;
+      room = s.grown.room;
+      rest = s.grown.rest;
+      over = λ row k c. inside_full m P row k c w a u b f is i s;
+    },
+    e,
+  )
 
   pub outcome_combine : (op : Bool → Bool → Bool) (x y : ℕ) (p q : List Bool → Bool) → Holds w a.used m p x → Holds w a.used m q y
       → ((e : List Bool) → length e ≡ m → op (p e) (q e) ≡ f e)
-      → (u : List ℕ) (r : Result Made Full) → Says w a (combined w a.used op x y) u r → Outcome w a m P f u r
-  outcome_combine op x y p q hp hq h u r s =
-      outcome u r (rw (hp.is, hq.is, for_combine op m p q, for_same m (λ e. op (p e) (q e)) f h) at s)
+      → (u : List ℕ) (b : Head) (r : Result ℕ Full) → Gives w a (combined w a.used op x y) u b r → Outcome w a m P f u b r
+  outcome_combine op x y p q hp hq h u b r s =
+      outcome u b r (rw (hp.is, hq.is, for_combine op m p q, for_same m (λ e. op (p e) (q e)) f h) at s)
 
   pub outcome_complement : (x : ℕ) (p : List Bool → Bool) → Holds w a.used m p x → ((e : List Bool) → length e ≡ m → not (p e) ≡ f e)
-      → (u : List ℕ) (r : Result Made Full) → Says w a (complement_tree (tree_at w a.used x)) u r → Outcome w a m P f u r
-  outcome_complement x p hp h u r s = outcome u r (rw (hp.is, for_complement m p, for_same m (λ e. not (p e)) f h) at s)
+      → (u : List ℕ) (b : Head) (r : Result ℕ Full) → Gives w a (complement_tree (tree_at w a.used x)) u b r → Outcome w a m P f u b r
+  outcome_complement x p hp h u b r s = outcome u b r (rw (hp.is, for_complement m p, for_same m (λ e. not (p e)) f h) at s)
 
   pub outcome_variable : (v : ℕ) → v < m → ((e : List Bool) → length e ≡ m → bit e v ≡ f e)
-      → (u : List ℕ) (r : Result Made Full) → Says w a (glued w a.used (m - v) 0 1) u r → Outcome w a m P f u r
-  outcome_variable v l h u r s =
-      outcome u r (rw (tree-constant w a.used 0 (omega arith), tree-constant w a.used 1 (omega arith), ← for_variable m v l, for_same m (λ e. bit e v) f h) at s)
+      → (u : List ℕ) (b : Head) (r : Result ℕ Full) → Gives w a (glued w a.used (m - v) 0 1) u b r → Outcome w a m P f u b r
+  outcome_variable v l h u b r s =
+      outcome u b r (rw (tree-constant w a.used 0 (omega arith), tree-constant w a.used 1 (omega arith), ← for_variable m v l, for_same m (λ e. bit e v) f h) at s)
 
 -- ## Steps after one another
 
@@ -174,8 +176,8 @@ module _ {m : ℕ} {P : (List Bool → Bool) → Type 0} where
     over = λ row k d. omega (arith, o.over row k d, s.room);
   }
 
-  pub outcome-after : {w : List ℕ} {a : Head} {f : List Bool → Bool} {u : List ℕ} {b : Head} {x : ℕ} (g : List Bool → Bool) (u' : List ℕ) (r : Result Made Full)
-      → Gained w a m P f u b x → Outcome u b m P g u' r → Outcome w a m P g u' r
+  pub outcome-after : {w : List ℕ} {a : Head} {f : List Bool → Bool} {u : List ℕ} {b : Head} {x : ℕ} (g : List Bool → Bool) (u' : List ℕ) (c : Head) (r : Result ℕ Full)
+      → Gained w a m P f u b x → Outcome u b m P g u' c r → Outcome w a m P g u' c r
   unfolding Outcome
-  outcome-after g u' (Ok y) s t = gained_after s t
-  outcome-after g u' (Err y) s o = over_after s o
+  outcome-after g u' c (Ok y) s t = gained_after s t
+  outcome-after g u' c (Err full) s (o, e) = (over_after s o, e)
