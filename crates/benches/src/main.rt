@@ -2,7 +2,10 @@
 // its answer: the length written, or number, file and position of a refusal.
 #![tactic(auto)]
 
+ghost use Rattle.std.specs.Prelude.{◌≤◌};
+
 use answer::Answer;
+use arrayvec::ArrayVec;
 use desk::{Mode, Report};
 use sheet::write;
 use std::io;
@@ -30,33 +33,27 @@ fn show<R: Print>(rt: &R, name: &str, answer: Answer) -> io::Result<()> {
 }
 
 // A file written into a result with space for so many bytes.
-fn written<R: Print + AllocGlobal>(
-    rt: &R,
-    name: &str,
-    file: &[u8],
-    space: usize,
-) -> io::Result<()> {
-    let mut result = vec![in rt.alloc(); 0; space]?;
-    show(rt, name, write(file, &mut result))
+fn written<R: Print>(rt: &R, name: &str, file: &[u8], space: usize) -> io::Result<()>
+    requires { space ≤ 409 }
+{
+    let mut result = [0u8; LONGEST];
+    show(rt, name, write(file, &mut result[..space]))
 }
 
-// So many of each of the records, and END after them, written into a result with space for any sheet.
-fn counted<R: Print + AllocGlobal>(
-    rt: &R,
-    name: &str,
-    records: &[(usize, &[u8])],
-) -> io::Result<()> {
-    let mut file = Vec::new(rt.alloc());
+// So many of each of the records, and END after them, written into a result with space for any sheet. The file takes no heap, so that no
+// case ends for want of memory; one that is full stays as it is.
+fn counted<R: Print>(rt: &R, name: &str, records: &[(usize, &[u8])]) -> io::Result<()> {
+    let mut file: ArrayVec<u8, 512> = ArrayVec::new();
     for (times, record) in records {
         for _ in 0..*times {
-            file.extend_from_slice(record)?;
+            let _ = file.try_extend_from_slice(record);
         }
     }
-    file.extend_from_slice(END)?;
+    let _ = file.try_extend_from_slice(END);
     written(rt, name, &file, LONGEST)
 }
 
-fn limits<R: Print + AllocGlobal>(rt: &R) -> io::Result<()> {
+fn limits<R: Print>(rt: &R) -> io::Result<()> {
     counted(rt, "8 inputs", &[(8, INPUT), (1, OUTPUT)])?;
     counted(rt, "9 inputs", &[(9, INPUT), (1, OUTPUT)])?;
     counted(rt, "12 registers", &[(12, REGISTER), (1, OUTPUT)])?;
@@ -72,7 +69,7 @@ fn limits<R: Print + AllocGlobal>(rt: &R) -> io::Result<()> {
     )
 }
 
-fn files<R: Print + AllocGlobal>(rt: &R) -> io::Result<()> {
+fn files<R: Print>(rt: &R) -> io::Result<()> {
     written(rt, "empty file", b"", LONGEST)?;
     written(rt, "END alone", b"\x08", LONGEST)?;
     written(rt, "half a record", b"\x01", LONGEST)?;
