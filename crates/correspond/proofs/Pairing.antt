@@ -1,9 +1,9 @@
 -- Laws of the outputs: where they are in the joint list, and when they are paired. Assumes nothing.
-use Rattle.std.specs.Prelude.{Option, MatchOption, Ok}
+use Rattle.std.specs.Prelude.{Option, MatchOption, Ok, if◌then◌else◌}
 use Rattle.std.specs.List.{find, range_with_len}
 use Rattle.std.specs.Option.{option_map}
 use mathlib.Core.Path.{◌≡◌, refl, ap, ◌∙◌}
-use mathlib.Core.Bool.{not, ◌&&◌, beq}
+use mathlib.Core.Bool.{Bool, true, false, not, ◌&&◌, beq}
 use mathlib.Core.List.{List, map}
 use Prim.Native.Nat.{ℕ, ◌+◌, ◌*◌, ◌≤◌, ◌<◌}
 use native.Mathlib.Omega.{arith}
@@ -12,7 +12,6 @@ use lib.Dec.{eqb}
 use borrow.Author.Tests.{lt-ltb, le-ltb, eq-eqb, ne_eqb}
 use Rattle.arrayvec.specs.ArrayVec.{array_vec_len}
 use Rattle.meaning.specs.Numbers.{max_signals}
-use Rattle.meaning.specs.Basic.{bit}
 use Rattle.meaning.specs.Sheet as paper
 use Rattle.meaning.specs.Joint.{class, total, outA, outB, paired, output_fault}
 use Rattle.meaning.specs.Answer.{outputs_verdict}
@@ -36,6 +35,13 @@ unfolding output_of
 signal_at s i l =
     get_or-map (λ (o : paper.Output). o.signal) (sheet_of s).outputs i (record { pin = 0; signal = 0 }) ∙ ap (λ (o : paper.Output). o.signal) (output_at s i _ l)
 
+-- equal polarities have equal bytes
+same_bytes : (x y : Bool) → eqb (if x then 1 else 0) (if y then 1 else 0) ≡ beq x y
+same_bytes true true = refl
+same_bytes true false = refl
+same_bytes false true = refl
+same_bytes false false = refl
+
 module _ {p : Pair} {g : List ℕ} (ok : Grouped p g) where
   size : length g ≡ array_vec_len p.a.signals + array_vec_len p.b.signals
   unfolding joint left right total
@@ -51,7 +57,7 @@ module _ {p : Pair} {g : List ℕ} (ok : Grouped p g) where
 
     module _ (x y : ℕ) (x-is : x ≡ (nth_output p.a i).signal) (y-is : y ≡ (nth_output p.b i).signal) where
       paired_by : paired (left p) (right p) g i
-          ≡ (eqb (get_or g x 0) (get_or g (array_vec_len p.a.signals + y) 0) && beq (bit p.plain x) (bit p.plain (array_vec_len p.a.signals + y)))
+          ≡ (eqb (get_or g x 0) (get_or g (array_vec_len p.a.signals + y) 0) && eqb (get_or p.plain x 0) (get_or p.plain (array_vec_len p.a.signals + y) 0))
       unfolding paired class outA outB left right
       paired_by =
           let one = signal_at p.a i l in
@@ -59,10 +65,10 @@ module _ {p : Pair} {g : List ℕ} (ok : Grouped p g) where
           let n = length_signals p.a in
           let plain-a = ok.alike.plain x (omega (arith, x-is, in_a, ok.size)) in
           let plain-b = ok.alike.plain (array_vec_len p.a.signals + y) (omega (arith, y-is, in_b, ok.size)) in
-          rw (one, other, n, ← x-is, ← y-is, ← plain-a, ← plain-b) refl
+          rw (one, other, n, ← x-is, ← y-is, plain-a, plain-b, same_bytes) refl
 
       pub paired_plain : get_or g x 0 ≡ get_or g (array_vec_len p.a.signals + y) 0
-          → beq (bit p.plain x) (bit p.plain (array_vec_len p.a.signals + y)) ≡ paired (left p) (right p) g i
+          → eqb (get_or p.plain x 0) (get_or p.plain (array_vec_len p.a.signals + y) 0) ≡ paired (left p) (right p) g i
       paired_plain e = rw (paired_by, eq-eqb _ _ e) refl
 
       pub not_paired : (get_or g x 0 ≡ get_or g (array_vec_len p.a.signals + y) 0 → ⊥) → eqb (get_or g x 0) (get_or g (array_vec_len p.a.signals + y) 0) ≡ paired (left p) (right p) g i

@@ -4,6 +4,7 @@ use mathlib.Core.Bool.{Bool, true, false, not, beq}
 use mathlib.Core.List.{List}
 use Prim.Native.Nat.{ℕ, ◌<◌}
 use lib.ListN.{length, get_or}
+use lib.Dec.{eqb}
 use Rattle.tree.specs.Function.{tree_for}
 use Rattle.tree.proofs.Function.{for_complement}
 use Rattle.diagram.specs.declared.Head.{Head}
@@ -43,15 +44,15 @@ module _ {w : List ℕ} {n : ℕ} {u : List ℕ} {m : ℕ} (keeps : Keeps w n u 
     tree-now = keeps.same _ (known.each v l).id
 
 module _ {w : List ℕ} {a : Head} {u : List ℕ} {b : Head} (ready : Ready u b) (keeps : Keeps w a.used u b.used) {ids : List ℕ} {v : ℕ} (l : v < length ids) where
-  pub normal_asks : {plain : List Bool} {places left : ℕ} → NormalsAsks w a plain ids places left → ComplementAsks u b (get_or ids v 0) left
+  pub normal_asks : {plain : List ℕ} {places left : ℕ} → NormalsAsks w a plain ids places left → ComplementAsks u b (get_or ids v 0) left
   normal_asks asks = record { ready = ready; operand = under_now keeps l asks.known }
 
   pub times_asks : {q places left : ℕ} → TimesAsks w a q ids places left → CombineAsks u b q (get_or ids v 0) left
   times_asks asks = record { ready = ready; first = under_kept keeps asks.factor; second = under_now keeps l asks.known }
 
 module _ {w : List ℕ} {a : Head} {u : List ℕ} {m : ℕ} (keeps : Keeps w a.used u m) {ids : List ℕ} {v : ℕ} (l : v < length ids) where
-  pub normal_is : {plain : List Bool} {places left : ℕ} → NormalsAsks w a plain ids places left
-      → tree_of_normal (get_or plain v false) (tree_at u m (get_or ids v 0)) ≡ normals w a.used plain ids v
+  pub normal_is : {plain : List ℕ} {places left : ℕ} → NormalsAsks w a plain ids places left
+      → tree_of_normal (eqb (get_or plain v 0) 1) (tree_at u m (get_or ids v 0)) ≡ normals w a.used plain ids v
   unfolding normals
   normal_is asks = rw (tree-now keeps l asks.known)
 

@@ -1,5 +1,5 @@
 -- What the functions that work a list ask and say. Assumes nothing.
-use Rattle.std.specs.Prelude.{◌≡◌, Bool, ◌&&◌, List, ℕ, ◌<◌, length, get_or, Result}
+use Rattle.std.specs.Prelude.{◌≡◌, ◌&&◌, List, ℕ, ◌<◌, length, get_or, Result}
 use Rattle.std.specs.Bool.{beq}
 use Rattle.tree.specs.Tree.{combine_tree}
 use Rattle.std.specs.Fn.{Shared}
@@ -33,14 +33,14 @@ module _ {F : Type 0} (g : Shared F (MutBor Table × (ℕ × (ℕ × Unit {0})))
 
 -- ## One operation on each id: the table, of the words w and the head a, is u and b afterwards, and an array that was old is out
 
--- whether it is plain for each id, and a place for each result
-pub record NormalsAsks (w : List ℕ) (a : Head) (plain : List Bool) (ids : List ℕ) (places left : ℕ) : Type 0 where
+-- a byte for each id, 1 where its signal is plain, and a place for each result
+pub record NormalsAsks (w : List ℕ) (a : Head) (plain ids : List ℕ) (places left : ℕ) : Type 0 where
   pub ready : Ready w a
   pub known : Known w a.used ids left
   pub flags : length plain ≡ length ids
   pub sized : places ≡ length ids
 
-abbrev pub NormalsSays : List ℕ → Head → List Bool → List ℕ → List ℕ → List ℕ → Head → List ℕ → Result (Unit {0}) Full → Type 0
+abbrev pub NormalsSays : List ℕ → Head → List ℕ → List ℕ → List ℕ → List ℕ → Head → List ℕ → Result (Unit {0}) Full → Type 0
 NormalsSays w a plain ids old u b out z = Fills w a (map_trees (normals w a.used plain ids) (length ids)) old 0 u b out z
 
 pub record TimesAsks (w : List ℕ) (a : Head) (q : ℕ) (ids : List ℕ) (places left : ℕ) : Type 0 where

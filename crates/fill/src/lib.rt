@@ -50,10 +50,10 @@ fn put_each<F: Fn(&mut Table, usize, usize) -> Result<usize, Full>>(
     Ok(())
 }
 
-// h of each f.
+// h of each f: a byte 1 says that its signal is plain, any other that it is flipped.
 pub fn put_normals(
     table: &mut Table,
-    plain: &[bool],
+    plain: &[u8],
     f: &[u16],
     h: &mut [u16],
     left: usize,
@@ -66,7 +66,7 @@ pub fn put_normals(
         table,
         f,
         h,
-        |table, v, x| put_normal(table, plain[v], x, left),
+        |table, v, x| put_normal(table, plain[v] == 1, x, left),
     )
 }
 

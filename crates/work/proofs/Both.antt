@@ -1,10 +1,11 @@
 -- f of the joint list at a moment, and the same normalised. Assumes nothing.
-use Rattle.std.specs.Prelude.{Result, Ok, Err}
-use mathlib.Core.Path.{◌≡◌, sym, ap, ap₂, subst, ◌∙◌}
-use mathlib.Core.Bool.{Bool, false}
+use Rattle.std.specs.Prelude.{if◌then◌else◌, Result, Ok, Err}
+use mathlib.Core.Path.{◌≡◌, refl, sym, ap, ap₂, subst, ◌∙◌}
+use mathlib.Core.Bool.{Bool, true, false}
 use mathlib.Core.List.{List, ◌++◌}
 use Prim.Native.Nat.{ℕ, ◌*◌, ◌<◌, ◌≤◌}
 use native.Mathlib.Omega.{arith}
+use lib.Dec.{eqb}
 use lib.ListN.{length, take}
 use lib.Seq.{length-take-le, get_or-take}
 use Rattle.meaning.specs.Numbers.{max_signals}
@@ -38,6 +39,11 @@ normal_tree A B m v l =
     normal_for _ (variables A B) (lists.f_at A B m v)
     ∙ for_same (variables A B) _ _ (λ e _. sym (h_from_f A B m v l e))
 
+-- the byte of a polarity is 1 exactly where it is plain
+byte_plain : (b : Bool) → eqb (if b then 1 else 0) 1 ≡ b
+byte_plain true = refl
+byte_plain false = refl
+
 -- k is the number of f, and lv that of the variable levels
 module _ {p : Pair} {t : Moment} {w : List ℕ} {a : Head} (f h : List ℕ) (asks : BothAsks p t w a (length f) (length h))
     (u : List ℕ) (b : Head) (fs : List ℕ) where
@@ -59,7 +65,7 @@ module _ {p : Pair} {t : Moment} {w : List ℕ} {a : Head} (f h : List ℕ) (ask
     size_f : length fs ≡ joint p
     size_f = filled.frame.size ∙ asks.f_asks.sized
 
-    abbrev plain : List Bool
+    abbrev plain : List ℕ
     plain = take k p.plain
 
     -- each signal has its polarity
@@ -84,7 +90,8 @@ module _ {p : Pair} {t : Moment} {w : List ℕ} {a : Head} (f h : List ℕ) (ask
     unfolding normals trees_at joint
     normals_are v l =
         let i = stand_at (f_tree (left p) (right p) (moment_of t)) (total (left p) (right p)) v v l (omega arith) filled.stand in
-        ap₂ tree_of_normal (get_or-take k p.plain v false (omega (arith, whole, size_f)) ∙ asks.f_asks.alike.plain v l) i.is
+        let byte = get_or-take k p.plain v 0 (omega (arith, whole, size_f)) ∙ asks.f_asks.alike.plain v l in
+        ap₂ tree_of_normal (ap (λ (x : ℕ). eqb x 1) byte ∙ byte_plain _) i.is
         ∙ normal_tree (left p) (right p) (moment_of t) v l
 
     all_normal : map_trees (normals u b.used plain fs) (length fs) ≡ H

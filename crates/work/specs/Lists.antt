@@ -1,5 +1,5 @@
 -- What it is to work a list of two sheets in the table. Assumes nothing.
-use Rattle.std.specs.Prelude.{◌≡◌, List, ◌↔◌, ℕ, ◌*◌, ◌≤◌, ◌<◌, max, length, get_or, false, Result, Ok, Err}
+use Rattle.std.specs.Prelude.{◌≡◌, List, ◌↔◌, ℕ, ◌*◌, ◌≤◌, ◌<◌, max, length, get_or, if◌then◌else◌, Result, Ok, Err}
 use Rattle.arrayvec.specs.ArrayVec.{array_vec_len}
 use Rattle.meaning.specs.Numbers.{max_signals}
 use Rattle.meaning.specs.Basic.{bit}
@@ -32,7 +32,7 @@ pub record Alike (p : Pair) : Type 0 where
   pub shown_b : 0 < array_vec_len p.b.outputs
   pub inputs : p.a.inputs ≡ p.b.inputs
   pub size : length p.plain ≡ 2 * max_signals
-  pub plain : (v : ℕ) → v < joint p → get_or p.plain v false ≡ bit (polarity (left p) (right p)) v
+  pub plain : (v : ℕ) → v < joint p → get_or p.plain v 0 ≡ (if bit (polarity (left p) (right p)) v then 1 else 0)
 
 -- A list of so many nodes was worked, and the table has no others: it fits, its nodes are counted, and two of n signals have one id
 -- exactly when they are the same.

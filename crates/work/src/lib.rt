@@ -17,7 +17,7 @@ use fill::{put_equals, put_normals, put_times};
 use pass::{Moment, Pass, put_sheet};
 use sheet::Sheet;
 
-// Two sheets, and whether each joint signal is plain, else it is flipped; the places after them hold false. No count stands beside them:
+// Two sheets, and each joint signal's polarity: 1 for plain, 0 for flipped; the places after hold any byte. No count stands beside them:
 // the sheets know how many joint signals there are.
 // No ghost field says that they are alike: `start_list`, `front_list` and `step_list`, which docs/PROMISES.md names, may not ask for a
 // narrower type, so each asks for `Alike` itself.
@@ -25,7 +25,7 @@ use sheet::Sheet;
 pub struct Pair {
     pub a: Sheet,
     pub b: Sheet,
-    pub plain: [bool; Sheet::JOINT],
+    pub plain: [u8; Sheet::JOINT],
 }
 
 impl Pair {

@@ -1,5 +1,6 @@
 // The files of a call: two sheets that are alike, with their polarities, and a grouping of their joint list.
-ghost use Rattle.std.specs.Prelude.{◌≡◌, take};
+ghost use Rattle.std.specs.Prelude.{◌≡◌, map, take, length};
+ghost use Rattle.std.specs.Int.{from_bool};
 ghost use Rattle.work.specs.Lists.{Alike};
 ghost use Rattle.yellopard.specs.Calls.{Prepared, FilesSay, PairAsks, unlike_at};
 
@@ -28,6 +29,16 @@ impl Files {
     }
 }
 
+// The bytes of some values: 1 for each that is true, else 0.
+fn put_bytes(values: &[bool], bytes: &mut [u8])
+    requires { length bytes.old ≡ length values.now }
+    ensures { bytes.new ≡ map from_bool values.now }
+{
+    for (v, value) in values.iter().enumerate() {
+        bytes[v] = u8::from(*value);
+    }
+}
+
 // Two sheets with the polarity of each joint signal: its value at tick 0 with all inputs 0.
 pub fn pair_of(a: Sheet, b: Sheet) -> Pair
     requires { PairAsks a b }
@@ -37,9 +48,9 @@ pub fn pair_of(a: Sheet, b: Sheet) -> Pair
     let in_b = values(&b, &initial(&b), 0);
     let first = a.signals.len();
     let second = b.signals.len();
-    let mut plain = [false; Sheet::JOINT];
-    plain[..first].copy_from_slice(&in_a[..first]);
-    plain[first..first + second].copy_from_slice(&in_b[..second]);
+    let mut plain = [0u8; Sheet::JOINT];
+    put_bytes(&in_a[..first], &mut plain[..first]);
+    put_bytes(&in_b[..second], &mut plain[first..first + second]);
     Pair { a, b, plain }
 }
 

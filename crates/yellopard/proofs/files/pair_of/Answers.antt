@@ -13,7 +13,7 @@ returns c =
     let in_b = still c.args.b _ c.values-in_b.result c.initial-2.ensures c.values-in_b.ensures in
     let put = laid _ _ _ _ _ _ _ few
     (omega (arith, c.len-first.ensures.fits, c.values-in_a.type_inv)) (omega (arith, c.len-second.ensures.fits, c.values-in_b.type_inv))
-    c.copy_from_slice.ensures.after c.copy_from_slice-2.ensures.after in (
+    c.put_bytes.ensures c.put_bytes-2.ensures in (
       pair_alike _ _ c.requires _ _ in_a in_b _
           (λ v l. put.0 v (omega (arith, c.len-first.ensures.value)))
           (λ v l. rw (← c.len-first.ensures.value) (put.1 v (omega (arith, c.len-second.ensures.value))))
