@@ -1,3 +1,4 @@
+pub mod Few
 pub mod Stored
 pub mod Reading
 pub mod Record

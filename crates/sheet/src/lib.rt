@@ -4,12 +4,13 @@
 ghost use Rattle.std.specs.Prelude.{◌≡◌};
 ghost use Rattle.sheet.specs.Stored.{empty_sheet};
 
+mod few;
 pub mod kind;
 mod reader;
 mod record;
 mod writer;
 
-use arrayvec::ArrayVec;
+pub use few::{Blank, Few};
 pub use kind::Kind;
 pub use reader::read_sheet;
 pub use writer::write;
@@ -29,12 +30,36 @@ pub struct Output {
     pub signal: u8,
 }
 
-// The signals and the outputs, in file order, and how many of the signals are inputs and registers. An ArrayVec takes no heap.
+impl Blank for Signal {
+    ghost use Rattle.sheet.specs.Stored.{no_signal};
+
+    ghost blank = { no_signal };
+
+    fn blank() -> Self {
+        Self {
+            kind: Kind::Input,
+            a: 0,
+            b: 0,
+        }
+    }
+}
+
+impl Blank for Output {
+    ghost use Rattle.sheet.specs.Stored.{no_output};
+
+    ghost blank = { no_output };
+
+    fn blank() -> Self {
+        Self { pin: 0, signal: 0 }
+    }
+}
+
+// The signals and the outputs, in file order, and how many of the signals are inputs and registers. A Few takes no heap.
 // That a sheet is whole stays a clause: what was read of a file so far is stored in one too.
-#[derive(Drop)]
+#[derive(Clone, Copy)]
 pub struct Sheet {
-    pub signals: ArrayVec<Signal, { Sheet::SIGNALS }>,
-    pub outputs: ArrayVec<Output, { Sheet::OUTPUTS }>,
+    pub signals: Few<Signal, { Sheet::SIGNALS }>,
+    pub outputs: Few<Output, { Sheet::OUTPUTS }>,
     pub inputs: usize,
     pub registers: usize,
 }
@@ -60,8 +85,8 @@ impl Sheet {
         ensures { result ≡ empty_sheet }
     {
         Self {
-            signals: ArrayVec::new(),
-            outputs: ArrayVec::new(),
+            signals: Few::new(),
+            outputs: Few::new(),
             inputs: 0,
             registers: 0,
         }

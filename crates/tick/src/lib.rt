@@ -10,17 +10,16 @@ ghost use Rattle.sheet.specs.Stored.{signal_of, sheet_of, Whole};
 ghost use Rattle.tick.specs.Tick.{padded, state_of, held_by, Gives, value_of, tick_of, numbers_of, Ran};
 
 use answer::{Answer, Done, File, Refusal, Refused};
-use arrayvec::ArrayVec;
-use sheet::{Kind, Sheet, Signal, read_sheet};
+use sheet::{Few, Kind, Sheet, Signal, read_sheet};
 
 // What the registers hold, in order.
-#[derive(Drop)]
+#[derive(Clone, Copy)]
 pub struct State {
-    pub held: ArrayVec<bool, { Sheet::REGISTERS }>,
+    pub held: Few<bool, { Sheet::REGISTERS }>,
 }
 
 // What a tick gives: the outputs' number, and what the registers hold after it.
-#[derive(Drop)]
+#[derive(Clone, Copy)]
 struct Tick {
     shown: u16,
     next: State,
@@ -65,7 +64,7 @@ pub fn values(s: &Sheet, state: &State, vector: u8) -> [bool; Sheet::SIGNALS]
     requires { Whole s.now }
     ensures { result ≡ padded max_signals (values (sheet_of s.now).signals state.now.held.items (bits_of max_inputs vector)) }
 {
-    // An array padded with false, as the contract says: an ArrayVec has no place after the last.
+    // An array padded with false, as the contract says: a Few has no place after the last.
     let mut v = [false; Sheet::SIGNALS];
     // The registers and the inputs so far: some signals only, so no range or enumerate counts them.
     let mut registers = 0;
@@ -87,7 +86,7 @@ fn state_by<F: Fn(Signal) -> bool>(s: &Sheet, value: F) -> State
     requires callable { F.IsAlwaysCallable value }
     ensures { (f : _) → Gives (F.post value) f → result ≡ state_of (held_by f (sheet_of s.now).signals) }
 {
-    let mut held = ArrayVec::new();
+    let mut held = Few::new();
     for x in s.signals.iter() {
         if x.kind == Kind::Register {
             held.push(value(*x));

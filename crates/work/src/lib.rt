@@ -21,7 +21,7 @@ use sheet::Sheet;
 // the sheets know how many joint signals there are.
 // No ghost field says that they are alike: `start_list`, `front_list` and `step_list`, which docs/PROMISES.md names, may not ask for a
 // narrower type, so each asks for `Alike` itself.
-#[derive(Drop)]
+#[derive(Clone, Copy)]
 pub struct Pair {
     pub a: Sheet,
     pub b: Sheet,

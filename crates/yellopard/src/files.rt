@@ -12,7 +12,7 @@ use work::Pair;
 
 // Two sheets that are alike, with their polarities, and the class of each of their joint signals, in the first places of an array: an
 // ArrayVec would first be filled with zeros and cut, as the classes are read into places.
-#[derive(Drop)]
+#[derive(Clone, Copy)]
 pub struct Files {
     pub pair: Pair,
     pub signals: usize,
