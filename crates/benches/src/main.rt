@@ -2,8 +2,6 @@
 // its answer: the length written, or number, file and position of a refusal.
 #![tactic(auto)]
 
-ghost use Rattle.std.specs.Prelude.{◌≤◌};
-
 use answer::Answer;
 use arrayvec::ArrayVec;
 use desk::{Mode, Report};
@@ -32,16 +30,13 @@ fn show<R: Print>(rt: &R, name: &str, answer: Answer) -> io::Result<()> {
     println!(rt; "{name}: {report}")
 }
 
-// A file written into a result with space for so many bytes.
-fn written<R: Print>(rt: &R, name: &str, file: &[u8], space: usize) -> io::Result<()>
-    requires { space ≤ 409 }
-{
-    let mut result = [0u8; LONGEST];
-    show(rt, name, write(file, &mut result[..space]))
+// A file written into a result.
+fn written<R: Print>(rt: &R, name: &str, file: &[u8], res: &mut [u8]) -> io::Result<()> {
+    show(rt, name, write(file, res))
 }
 
 // So many of each of the records, and END after them, written into a result with space for any sheet. The file takes no heap, so that no
-// case ends for want of memory; one that is full stays as it is.
+// case ends for want of memory; a record that it has no room for is left out.
 fn counted<R: Print>(rt: &R, name: &str, records: &[(usize, &[u8])]) -> io::Result<()> {
     let mut file: ArrayVec<u8, 512> = ArrayVec::new();
     for (times, record) in records {
@@ -50,7 +45,7 @@ fn counted<R: Print>(rt: &R, name: &str, records: &[(usize, &[u8])]) -> io::Resu
         }
     }
     let _ = file.try_extend_from_slice(END);
-    written(rt, name, &file, LONGEST)
+    written(rt, name, &file, &mut [0; LONGEST])
 }
 
 fn limits<R: Print>(rt: &R) -> io::Result<()> {
@@ -70,22 +65,22 @@ fn limits<R: Print>(rt: &R) -> io::Result<()> {
 }
 
 fn files<R: Print>(rt: &R) -> io::Result<()> {
-    written(rt, "empty file", b"", LONGEST)?;
-    written(rt, "END alone", b"\x08", LONGEST)?;
-    written(rt, "half a record", b"\x01", LONGEST)?;
+    written(rt, "empty file", b"", &mut [0; LONGEST])?;
+    written(rt, "END alone", b"\x08", &mut [0; LONGEST])?;
+    written(rt, "half a record", b"\x01", &mut [0; LONGEST])?;
     written(
         rt,
         "END in the middle",
         b"\x02\x00\x00\x08\x07\x00\x00\x08",
-        LONGEST,
+        &mut [0; LONGEST],
     )?;
     written(
         rt,
         "no room for one byte",
         b"\x02\x00\x00\x07\x00\x00\x08",
-        6,
+        &mut [0; 6],
     )?;
-    written(rt, "30,000 zero bytes", &[0; 30000], LONGEST)
+    written(rt, "30,000 zero bytes", &[0; 30000], &mut [0; LONGEST])
 }
 
 // A run of the bench L into a result with space for 30,000 ticks.
