@@ -12,8 +12,8 @@ use Rattle.diagram.specs.declared.Op.TheVariants.{And}
 use Rattle.diagram.specs.Operation.{op_of}
 use Rattle.diagram.specs.Table.{tree_at, combined}
 use Rattle.diagram.specs.Contract.{Keeps, Ready, Under, CombineAsks, ComplementAsks}
-use Rattle.fill.specs.Trees.{trees_at, tree_of_normal, normals, products}
-use Rattle.fill.specs.Contract.{Known, NormalsAsks, TimesAsks}
+use Rattle.fill.specs.Trees.{trees_at, tree_of_normal, normals, byte_normals, products}
+use Rattle.fill.specs.Contract.{Known, NormalsAsks, ByteNormalsAsks, TimesAsks}
 use Rattle.fill.proofs.Gains.{under_kept}
 
 -- ## h of f
@@ -44,17 +44,25 @@ module _ {w : List ℕ} {n : ℕ} {u : List ℕ} {m : ℕ} (keeps : Keeps w n u 
     tree-now = keeps.same _ (known.each v l).id
 
 module _ {w : List ℕ} {a : Head} {u : List ℕ} {b : Head} (ready : Ready u b) (keeps : Keeps w a.used u b.used) {ids : List ℕ} {v : ℕ} (l : v < length ids) where
-  pub normal_asks : {plain : List ℕ} {places left : ℕ} → NormalsAsks w a plain ids places left → ComplementAsks u b (get_or ids v 0) left
+  pub normal_asks : {plain : List Bool} {places left : ℕ} → NormalsAsks w a plain ids places left → ComplementAsks u b (get_or ids v 0) left
   normal_asks asks = record { ready = ready; operand = under_now keeps l asks.known }
+
+  pub byte_normal_asks : {plain : List ℕ} {places left : ℕ} → ByteNormalsAsks w a plain ids places left → ComplementAsks u b (get_or ids v 0) left
+  byte_normal_asks asks = record { ready = ready; operand = under_now keeps l asks.known }
 
   pub times_asks : {q places left : ℕ} → TimesAsks w a q ids places left → CombineAsks u b q (get_or ids v 0) left
   times_asks asks = record { ready = ready; first = under_kept keeps asks.factor; second = under_now keeps l asks.known }
 
 module _ {w : List ℕ} {a : Head} {u : List ℕ} {m : ℕ} (keeps : Keeps w a.used u m) {ids : List ℕ} {v : ℕ} (l : v < length ids) where
-  pub normal_is : {plain : List ℕ} {places left : ℕ} → NormalsAsks w a plain ids places left
-      → tree_of_normal (eqb (get_or plain v 0) 1) (tree_at u m (get_or ids v 0)) ≡ normals w a.used plain ids v
+  pub normal_is : {plain : List Bool} {places left : ℕ} → NormalsAsks w a plain ids places left
+      → tree_of_normal (get_or plain v false) (tree_at u m (get_or ids v 0)) ≡ normals w a.used plain ids v
   unfolding normals
   normal_is asks = rw (tree-now keeps l asks.known)
+
+  pub byte_normal_is : {plain : List ℕ} {places left : ℕ} → ByteNormalsAsks w a plain ids places left
+      → tree_of_normal (eqb (get_or plain v 0) 1) (tree_at u m (get_or ids v 0)) ≡ byte_normals w a.used plain ids v
+  unfolding byte_normals
+  byte_normal_is asks = rw (tree-now keeps l asks.known)
 
   pub times_is : {q places left : ℕ} → TimesAsks w a q ids places left → combined u m (op_of And) q (get_or ids v 0) ≡ products w a.used q ids v
   unfolding products op_of

@@ -1,5 +1,5 @@
 -- What the functions that work a list ask and say. Assumes nothing.
-use Rattle.std.specs.Prelude.{◌≡◌, ◌&&◌, List, ℕ, ◌<◌, length, get_or, Result}
+use Rattle.std.specs.Prelude.{◌≡◌, Bool, ◌&&◌, List, ℕ, ◌<◌, length, get_or, Result}
 use Rattle.std.specs.Bool.{beq}
 use Rattle.tree.specs.Tree.{combine_tree}
 use Rattle.std.specs.Fn.{Shared}
@@ -11,7 +11,7 @@ use Rattle.diagram.specs.declared.Head.{Head}
 use Rattle.diagram.specs.Table.{tree_at, combined}
 use Rattle.diagram.specs.Contract.{Ready, Under, Keeps, Gives}
 use Rattle.fill.specs.Work.{Fills, Ends}
-use Rattle.fill.specs.Trees.{map_trees, trees_at, normals, products, with_product, member_trees, member_tree, equal_trees, product_tree}
+use Rattle.fill.specs.Trees.{map_trees, trees_at, normals, byte_normals, products, with_product, member_trees, member_tree, equal_trees, product_tree}
 
 -- the words are ids of a table of n nodes, of which at most so many variable levels remain
 pub record Known (w : List ℕ) (n : ℕ) (ids : List ℕ) (left : ℕ) : Type 0 where
@@ -33,15 +33,25 @@ module _ {F : Type 0} (g : Shared F (MutBor Table × (ℕ × (ℕ × Unit {0})))
 
 -- ## One operation on each id: the table, of the words w and the head a, is u and b afterwards, and an array that was old is out
 
--- a byte for each id, 1 where its signal is plain, and a place for each result
-pub record NormalsAsks (w : List ℕ) (a : Head) (plain ids : List ℕ) (places left : ℕ) : Type 0 where
+-- whether it is plain for each id, and a place for each result
+pub record NormalsAsks (w : List ℕ) (a : Head) (plain : List Bool) (ids : List ℕ) (places left : ℕ) : Type 0 where
   pub ready : Ready w a
   pub known : Known w a.used ids left
   pub flags : length plain ≡ length ids
   pub sized : places ≡ length ids
 
-abbrev pub NormalsSays : List ℕ → Head → List ℕ → List ℕ → List ℕ → List ℕ → Head → List ℕ → Result (Unit {0}) Full → Type 0
+abbrev pub NormalsSays : List ℕ → Head → List Bool → List ℕ → List ℕ → List ℕ → Head → List ℕ → Result (Unit {0}) Full → Type 0
 NormalsSays w a plain ids old u b out z = Fills w a (map_trees (normals w a.used plain ids) (length ids)) old 0 u b out z
+
+-- a byte for each id, 1 where its signal is plain, and a place for each result
+pub record ByteNormalsAsks (w : List ℕ) (a : Head) (plain ids : List ℕ) (places left : ℕ) : Type 0 where
+  pub ready : Ready w a
+  pub known : Known w a.used ids left
+  pub flags : length plain ≡ length ids
+  pub sized : places ≡ length ids
+
+abbrev pub ByteNormalsSays : List ℕ → Head → List ℕ → List ℕ → List ℕ → List ℕ → Head → List ℕ → Result (Unit {0}) Full → Type 0
+ByteNormalsSays w a plain ids old u b out z = Fills w a (map_trees (byte_normals w a.used plain ids) (length ids)) old 0 u b out z
 
 pub record TimesAsks (w : List ℕ) (a : Head) (q : ℕ) (ids : List ℕ) (places left : ℕ) : Type 0 where
   pub ready : Ready w a

@@ -1,5 +1,5 @@
 -- The lists of trees that are worked: one for each signal, and the equalities of a grouping with their running product. Assumes nothing.
-use Rattle.std.specs.Prelude.{Bool, true, ◌&&◌, List, [], ◌∷◌, ◌++◌, ℕ, zero, suc, get_or, eqb, ltb, if◌then◌else◌}
+use Rattle.std.specs.Prelude.{Bool, true, false, ◌&&◌, List, [], ◌∷◌, ◌++◌, ℕ, zero, suc, get_or, eqb, ltb, if◌then◌else◌}
 use Rattle.std.specs.Bool.{beq}
 use Rattle.meaning.specs.Joint.{first}
 use Rattle.tree.specs.Tree.{Tree, leaf, combine_tree, complement_tree}
@@ -18,9 +18,12 @@ trees_at w n ids v = tree_at w n (get_or ids v 0)
 unfoldable pub tree_of_normal : Bool → Tree → Tree
 tree_of_normal plain t = if plain then t else complement_tree t
 
+unfoldable pub normals : List ℕ → ℕ → List Bool → List ℕ → ℕ → Tree
+normals w n plain ids v = tree_of_normal (get_or plain v false) (trees_at w n ids v)
+
 -- the same of each id: 1 says that its signal is plain, any other byte that it is flipped
-unfoldable pub normals : List ℕ → ℕ → List ℕ → List ℕ → ℕ → Tree
-normals w n plain ids v = tree_of_normal (eqb (get_or plain v 0) 1) (trees_at w n ids v)
+unfoldable pub byte_normals : List ℕ → ℕ → List ℕ → List ℕ → ℕ → Tree
+byte_normals w n plain ids v = tree_of_normal (eqb (get_or plain v 0) 1) (trees_at w n ids v)
 
 -- q times each
 unfoldable pub products : List ℕ → ℕ → ℕ → List ℕ → ℕ → Tree

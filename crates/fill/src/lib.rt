@@ -8,7 +8,10 @@ ghost use Rattle.diagram.specs.Contract.{Ready, Gives, ComplementAsks};
 ghost use Rattle.tree.specs.Tree.{Tree};
 ghost use Rattle.fill.specs.Work.{Fills};
 ghost use Rattle.fill.specs.Trees.{map_trees, tree_of_normal};
-ghost use Rattle.fill.specs.Contract.{Takes, Puts, NormalsAsks, NormalsSays, EqualAsks, EqualSays, MemberAsks, MemberSays, EqualsAsks, EqualsSays, TimesAsks, TimesSays};
+ghost use Rattle.fill.specs.Contract.{Takes, Puts, NormalsAsks, NormalsSays, ByteNormalsAsks, ByteNormalsSays, EqualAsks, EqualSays, MemberAsks, MemberSays, EqualsAsks, EqualsSays, TimesAsks, TimesSays};
+
+#[cfg(test)]
+mod tests;
 
 use diagram::table::Table;
 use diagram::{Full, Op};
@@ -50,10 +53,10 @@ fn put_each<F: Fn(&mut Table, usize, usize) -> Result<usize, Full>>(
     Ok(())
 }
 
-// h of each f: a byte 1 says that its signal is plain, any other that it is flipped.
+// h of each f: a flag says whether its signal is plain.
 pub fn put_normals(
     table: &mut Table,
-    plain: &[u8],
+    plain: &[bool],
     f: &[u16],
     h: &mut [u16],
     left: usize,
@@ -61,6 +64,26 @@ pub fn put_normals(
     requires { NormalsAsks table.old.words.now table.old.head plain.now f.now (length h.old) left }
     ensures same_reference { table.new.words.ghost_name ≡ table.old.words.ghost_name }
     ensures says { NormalsSays table.old.words.now table.old.head plain.now f.now h.old table.new.words.now table.new.head h.new result }
+{
+    put_each(
+        table,
+        f,
+        h,
+        |table, v, x| put_normal(table, plain[v], x, left),
+    )
+}
+
+// The same where bytes say it: 1 that its signal is plain, any other that it is flipped.
+pub fn put_byte_normals(
+    table: &mut Table,
+    plain: &[u8],
+    f: &[u16],
+    h: &mut [u16],
+    left: usize,
+) -> Result<(), Full>
+    requires { ByteNormalsAsks table.old.words.now table.old.head plain.now f.now (length h.old) left }
+    ensures same_reference { table.new.words.ghost_name ≡ table.old.words.ghost_name }
+    ensures says { ByteNormalsSays table.old.words.now table.old.head plain.now f.now h.old table.new.words.now table.new.head h.new result }
 {
     put_each(
         table,

@@ -19,8 +19,8 @@ use Rattle.lists.proofs.Trees.{h_from_f}
 use Rattle.diagram.specs.declared.Full.{Full}
 use Rattle.diagram.specs.declared.Head.{Head}
 use Rattle.fill.specs.Work.{Filled, Fills}
-use Rattle.fill.specs.Trees.{map_trees, trees_at, tree_of_normal, normals}
-use Rattle.fill.specs.Contract.{NormalsAsks, NormalsSays}
+use Rattle.fill.specs.Trees.{map_trees, trees_at, tree_of_normal, byte_normals}
+use Rattle.fill.specs.Contract.{ByteNormalsAsks, ByteNormalsSays}
 use Rattle.fill.proofs.Parts.{part_left}
 use Rattle.fill.proofs.Gains.{gains_ready, gains_after, misses_after, misses_wider, stand_kept}
 use Rattle.fill.proofs.MapTrees.{stand_at, stand_known, map_same}
@@ -75,7 +75,7 @@ module _ {p : Pair} {t : Moment} {w : List ℕ} {a : Head} (f h : List ℕ) (ask
     plain_sized : k ≡ length plain
     plain_sized = sym (length-take-le k p.plain (omega (arith, plain_few, asks.f_asks.alike.size)))
 
-    pub normals_asks : {lv : ℕ} → lv ≡ variables (left p) (right p) → NormalsAsks u b plain fs (length h) lv
+    pub normals_asks : {lv : ℕ} → lv ≡ variables (left p) (right p) → ByteNormalsAsks u b plain fs (length h) lv
     unfolding joint
     normals_asks counted = record {
       ready = gains_ready filled.gains;
@@ -86,17 +86,17 @@ module _ {p : Pair} {t : Moment} {w : List ℕ} {a : Head} (f h : List ℕ) (ask
       sized = asks.h_sized ∙ sym size_f;
     }
 
-    normals_are : (v : ℕ) → v < joint p → normals u b.used plain fs v ≡ h_tree (left p) (right p) (moment_of t) v
-    unfolding normals trees_at joint
+    normals_are : (v : ℕ) → v < joint p → byte_normals u b.used plain fs v ≡ h_tree (left p) (right p) (moment_of t) v
+    unfolding byte_normals trees_at joint
     normals_are v l =
         let i = stand_at (f_tree (left p) (right p) (moment_of t)) (total (left p) (right p)) v v l (omega arith) filled.stand in
         let byte = get_or-take k p.plain v 0 (omega (arith, whole, size_f)) ∙ asks.f_asks.alike.plain v l in
         ap₂ tree_of_normal (ap (λ (x : ℕ). eqb x 1) byte ∙ byte_plain _) i.is
         ∙ normal_tree (left p) (right p) (moment_of t) v l
 
-    all_normal : map_trees (normals u b.used plain fs) (length fs) ≡ H
+    all_normal : map_trees (byte_normals u b.used plain fs) (length fs) ≡ H
     unfolding joint
-    all_normal = ap (map_trees (normals u b.used plain fs)) size_f ∙ map_same _ _ (joint p) normals_are
+    all_normal = ap (map_trees (byte_normals u b.used plain fs)) size_f ∙ map_same _ _ (joint p) normals_are
 
     both_by : (u' : List ℕ) (c : Head) (hs : List ℕ) (z : Result (Unit {0}) Full) → Fills u b H h 0 u' c hs z → BothSays p t w a u' c fs hs z
     unfolding Fills BothSays both_trees
@@ -109,7 +109,7 @@ module _ {p : Pair} {t : Moment} {w : List ℕ} {a : Head} (f h : List ℕ) (ask
     }
     both_by u' c hs (Err full) k = misses_after filled.gains k.0
 
-    pub both_says : (u' : List ℕ) (c : Head) (hs : List ℕ) (z : Result (Unit {0}) Full) → NormalsSays u b plain fs h u' c hs z → BothSays p t w a u' c fs hs z
+    pub both_says : (u' : List ℕ) (c : Head) (hs : List ℕ) (z : Result (Unit {0}) Full) → ByteNormalsSays u b plain fs h u' c hs z → BothSays p t w a u' c fs hs z
     both_says u' c hs z k = both_by u' c hs z (subst (λ (ts : List Tree). Fills u b ts h 0 u' c hs z) all_normal k)
 
 -- ## What has been worked

@@ -13,7 +13,7 @@ mod pass;
 
 use diagram::Full;
 use diagram::table::Table;
-use fill::{put_equals, put_normals, put_times};
+use fill::{put_byte_normals, put_equals, put_times};
 use pass::{Moment, Pass, put_sheet};
 use sheet::Sheet;
 
@@ -65,7 +65,7 @@ fn put_both(
     ensures both { BothSays p.now moment.entry table.old.words.now table.old.head table.new.words.now table.new.head f.new h.new result }
 {
     put_joint(table, p, moment, f)?;
-    put_normals(table, &p.plain[..f.len()], f, h, p.levels())
+    put_byte_normals(table, &p.plain[..f.len()], f, h, p.levels())
 }
 
 // The start list: all f in the initial state, then all h, whose ids are put. The lent table may hold anything.
