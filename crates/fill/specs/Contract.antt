@@ -33,7 +33,7 @@ module _ {F : Type 0} (g : Shared F (MutBor Table × (ℕ × (ℕ × Unit {0})))
 
 -- ## One operation on each id: the table, of the words w and the head a, is u and b afterwards, and an array that was old is out
 
--- whether it is plain for each id, and a place for each result
+-- a flag for each id, whether its signal is plain, and a place for each result
 pub record NormalsAsks (w : List ℕ) (a : Head) (plain : List Bool) (ids : List ℕ) (places left : ℕ) : Type 0 where
   pub ready : Ready w a
   pub known : Known w a.used ids left

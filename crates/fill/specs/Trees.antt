@@ -18,10 +18,11 @@ trees_at w n ids v = tree_at w n (get_or ids v 0)
 unfoldable pub tree_of_normal : Bool → Tree → Tree
 tree_of_normal plain t = if plain then t else complement_tree t
 
+-- the same of each id, where a flag says whether its signal is plain
 unfoldable pub normals : List ℕ → ℕ → List Bool → List ℕ → ℕ → Tree
 normals w n plain ids v = tree_of_normal (get_or plain v false) (trees_at w n ids v)
 
--- the same of each id: 1 says that its signal is plain, any other byte that it is flipped
+-- the same, where a byte says it: 1 that its signal is plain, any other that it is flipped
 unfoldable pub byte_normals : List ℕ → ℕ → List ℕ → List ℕ → ℕ → Tree
 byte_normals w n plain ids v = tree_of_normal (eqb (get_or plain v 0) 1) (trees_at w n ids v)
 

@@ -73,7 +73,8 @@ pub fn put_normals(
     )
 }
 
-// The same where bytes say it: 1 that its signal is plain, any other that it is flipped.
+// The same where a byte says it: 1 that its signal is plain, any other that it is flipped. A function of its own: a pair's polarities are bytes,
+// which cannot be lent as flags.
 pub fn put_byte_normals(
     table: &mut Table,
     plain: &[u8],
